@@ -1,0 +1,123 @@
+//! The top call.
+
+ghost use Rattle.std.specs.Prelude.{◌≡◌, ◌≢◌, ◌↔◌, ◌⊎◌, List, ℕ, [], IsNone, map, Some, None, IfOk, IfSome, OnErr, IsTrue, true, false};
+ghost use Rattle.std.specs.Option.{option_map};
+ghost use Rattle.std.specs.String.{string_bytes};
+ghost use Rattle.scw_outside.specs.Causes.{Rose};
+ghost use Rattle.scw_outside.specs.Content.{HasName};
+ghost use Rattle.scw_tool.specs.Job.{Edge, Comes, PrintsValue, Executed, CutOff, Judged, IsReady, Went, has_run, is_judged};
+ghost use Rattle.scw_tool.specs.Status.{SaysLine};
+ghost use Rattle.scw_tool.specs.Source.{Sum, fits_sum};
+ghost use Rattle.scw_tool.specs.Words.{job_file, job_name};
+
+use crate::answer::{Answer, Outcome};
+use crate::pipeline::{Finished, Made, execute, make};
+use crate::put_said::put_said;
+use crate::reader::{Sum, read_source};
+use crate::report::report;
+use crate::words::{file_of, name_of};
+use scw_outside::{Sink, Store, StoreFault};
+use scw_text::NoMemory;
+use std::alloc::Global;
+
+/// A file of more bytes than a source may have is read only so far.
+const MOST_READ: u32 = 1_048_577;
+
+// Compiles a sum, runs its class file and puts what it says.
+fn run_sum<O: Sink>(alloc: Global, sum: &Sum, out: &mut O) -> Result<Answer, NoMemory>
+    requires { IsTrue (fits_sum sum.now) }
+    ensures went { IfOk result (λ a. Went sum.now (O.room out.old) (O.fault_count out.old) (O.fault_count out.new) (O.taken out.old) (O.taken out.new) a) }
+    ensures kept { OnErr result (O.taken out.new ≡ O.taken out.old) }
+{
+    let Made { files, class } = make(alloc, sum)?;
+    let Finished { steps, said } = execute(alloc, class, sum)?;
+    match put_said(out, said.as_slice()) {
+        Ok(()) => Ok(Answer::Done(files, steps)),
+        Err(steps) => Ok(Answer::WriteFault(files, steps)),
+    }
+}
+
+// Reads the file, and runs it where it is a source.
+fn run_file<S: Store, O: Sink>(
+    alloc: Global,
+    file: &str,
+    store: &mut S,
+    out: &mut O,
+) -> Result<Answer, NoMemory>
+    ensures comes { (words : List (List ℕ)) → job_file words ≡ Some file.now → IfOk result (λ a. Comes (record { words = words; told = S.told store.old; is_calm = S.is_calm store.old; store_before = S.fault_count store.old; store_after = S.fault_count store.new; room = O.room out.old; out_before = O.fault_count out.old; out_after = O.fault_count out.new; taken_before = O.taken out.old; taken_after = O.taken out.new }) a) }
+    ensures kept { OnErr result (O.taken out.new ≡ O.taken out.old) }
+    ensures store { S.told store.new ≡ S.told store.old }
+{
+    let name = name_of(alloc, file)?;
+    let source = match store.read(alloc, &name, MOST_READ) {
+        Ok(source) => source,
+        Err(StoreFault::Failed) => return Ok(Answer::ReadFault),
+        Err(StoreFault::NoMemory) => return Err(NoMemory),
+    };
+    match read_source(alloc, source.as_slice())? {
+        Some(sum) => run_sum(alloc, &sum, out),
+        None => Ok(Answer::NotBuilt),
+    }
+}
+
+// Does the job of a file, where the words name one.
+fn answer_to<S: Store, O: Sink>(
+    alloc: Global,
+    file: Option<&str>,
+    store: &mut S,
+    out: &mut O,
+) -> Answer
+    ensures comes { (words : List (List ℕ)) → option_map (λ s. s.now) file.entry ≡ job_file words → Comes (record { words = words; told = S.told store.old; is_calm = S.is_calm store.old; store_before = S.fault_count store.old; store_after = S.fault_count store.new; room = O.room out.old; out_before = O.fault_count out.old; out_after = O.fault_count out.new; taken_before = O.taken out.old; taken_after = O.taken out.new }) result }
+    ensures store { S.told store.new ≡ S.told store.old }
+{
+    match file {
+        Some(file) => match run_file(alloc, file, store, out) {
+            Ok(answer) => answer,
+            Err(NoMemory) => Answer::NoMemory,
+        },
+        None => Answer::Words,
+    }
+}
+
+/// Does the job of the words: `run FILE` compiles the source in the file, reads the class file back,
+/// runs it and puts what it says to `out`. A status other than 0 puts one line to `err`.
+pub fn scw_main<S: Store, O: Sink, E: Sink>(
+    alloc: Global,
+    words: &Vec<String>,
+    store: &mut S,
+    out: &mut O,
+    err: &mut E,
+) -> Outcome
+    // The headline: with status 0 the file is a source that prints a sum, and what was put is the decimal text of its value, wrapped at 32 bits, and a line end.
+    ensures headline { result.status ≡ 0 → PrintsValue (map string_bytes words.now.items) (S.told store.old) (O.taken out.old) (O.taken out.new) }
+    // With status 0 it was put by the machine, on the class file that was made, in exactly so many rows.
+    ensures run { result.status ≡ 0 → Executed (map string_bytes words.now.items) (S.told store.old) result.files result.steps (O.taken out.old) (O.taken out.new) }
+    // Status 2: the words are no job.
+    ensures words { (result.status ≡ 2) ↔ IsNone (job_name (map string_bytes words.now.items)) }
+    // Status 3: the store failed in this call.
+    ensures read { result.status ≡ 3 → Rose (S.fault_count store.old) (S.fault_count store.new) }
+    // It doesn't come where the store is calm and has the file.
+    ensures has { IsTrue (S.is_calm store.old) → IfSome (job_name (map string_bytes words.now.items)) (λ name. HasName (S.told store.old) name → result.status ≢ 3) }
+    // Status 4: `out` failed in this call.
+    ensures write { result.status ≡ 4 → Rose (O.fault_count out.old) (O.fault_count out.new) }
+    // With status 4 it had taken a front of what the machine says up to the row whose put failed.
+    ensures cut { result.status ≡ 4 → CutOff (map string_bytes words.now.items) (S.told store.old) result.files result.steps (O.taken out.old) (O.taken out.new) }
+    // Where the file was read and judged, status 14 says exactly that it is no source.
+    ensures not_built { IsTrue (is_judged result.status) → Judged (map string_bytes words.now.items) (S.told store.old) result.status }
+    // There are files and steps with status 0 and 4 alone, and no refusal yet.
+    ensures files { has_run result.status ≡ false → result.files ≡ [] }
+    ensures steps { has_run result.status ≡ false → result.steps ≡ 0 }
+    ensures refusal { result.refusal ≡ None }
+    // The line for the status, where `err` doesn't fail.
+    ensures said { (Rose (E.fault_count err.old) (E.fault_count err.new) → ⊥) → SaysLine (map string_bytes words.now.items) result.status (E.taken err.old) (E.taken err.new) }
+    // The store's files are as before, and so is `out` where nothing was run.
+    ensures store { S.told store.new ≡ S.told store.old }
+    ensures out { has_run result.status ≡ false → O.taken out.new ≡ O.taken out.old }
+    // A source in a calm store, with room for its line, is run, unless memory runs out.
+    ensures complete { (e : Sum) → IsReady (map string_bytes words.now.items) (S.told store.old) (S.is_calm store.old) (O.room out.old) e → (result.status ≡ 0) ⊎ (result.status ≡ 12) }
+{
+    let file = file_of(words.as_slice());
+    let answer = answer_to(alloc, file, store, out);
+    let _ = report(err, file, answer.status());
+    answer.into_outcome(alloc)
+}
