@@ -1,0 +1,33 @@
+//! The program: the words of its call, the present folder, and the standard output and error.
+#![tactic(auto)]
+
+use scw_outside::{DirStore, StdSink};
+use scw_tool::{Status, scw_main};
+use sqlite_items::Items;
+use std::alloc::AllocError;
+use std::env;
+use std::process::ExitCode;
+
+/// The words after the program's name, or none where the call doesn't tell them.
+fn words_of(rt: &HostRuntime) -> Result<Vec<String>, AllocError> {
+    let mut words = Vec::new(rt.alloc());
+    let Ok(all) = env::args(rt) else {
+        return Ok(words);
+    };
+    for word in all.skip(1) {
+        words.push(word)?;
+    }
+    Ok(words)
+}
+
+fn main(rt: HostRuntime) -> ExitCode {
+    let alloc = rt.alloc();
+    let Ok(words) = words_of(&rt) else {
+        return ExitCode::from(Status::NoMemory.number());
+    };
+    let mut store = DirStore::new(&rt, Items::new(alloc));
+    let mut out = StdSink::new(rt.stdout());
+    let mut err = StdSink::new(rt.stderr());
+    let outcome = scw_main(alloc, &words, &mut store, &mut out, &mut err);
+    ExitCode::from(outcome.status)
+}
