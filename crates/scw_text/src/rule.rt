@@ -7,105 +7,105 @@ ghost use Rattle.scw_text.specs.Rule.{number_of};
 #[derive(Clone, Copy, Debug, PartialEq, Eq)]
 pub enum Rule {
     /// A character begins no token.
-    BadChar,
+    BadChar = 1,
     /// A block comment is not closed.
-    OpenComment,
+    OpenComment = 2,
     /// A literal or a backquoted name is not closed.
-    OpenText,
+    OpenText = 3,
     /// An escape is not in the list.
-    BadEscape,
+    BadEscape = 4,
     /// A number is past its range, has a leading zero, or has a floating form.
-    BadNumber,
+    BadNumber = 5,
     /// A name is empty or longer than 200 bytes.
-    BadName,
+    BadName = 6,
     /// A string is longer than 65,535 bytes of modified UTF-8.
-    LongText,
+    LongText = 7,
     /// An interpolator, a symbol literal, or `\u` outside a literal that allows it.
-    LeftOutToken,
+    LeftOutToken = 8,
     /// There is no reading, and the failing token cannot stand there.
-    Unexpected,
+    Unexpected = 10,
     /// Operators of equal precedence associate unlike.
-    MixedAssoc,
+    MixedAssoc = 11,
     /// There is a reading only past the depth of 200.
-    TooNested,
+    TooNested = 12,
     /// 2147483648 or 9223372036854775808L without the `-` that it needs.
-    Range,
+    Range = 13,
     /// An argument is an assignment to a simple name.
-    NamedArgument,
+    NamedArgument = 14,
     /// An underscore section has no expression that binds it.
-    FreeUnderscore,
+    FreeUnderscore = 15,
     /// A scope defines a name twice, overloaded methods excepted.
-    DoubleName,
+    DoubleName = 20,
     /// A name has no binding.
-    NotFound,
+    NotFound = 21,
     /// A name has two bindings of which none shadows the other.
-    TwoBindings,
+    TwoBindings = 22,
     /// The type has no such member, and no view gives one.
-    NotMember,
+    NotMember = 23,
     /// A private or protected member is out of reach.
-    NoAccess,
+    NoAccess = 24,
     /// A local is used before its place, without a written type or over a value.
-    Forward,
+    Forward = 25,
     /// A path needs a stable value.
-    NotStable,
+    NotStable = 26,
     /// A type stands for a value, or conversely.
-    WrongKind,
+    WrongKind = 27,
     /// A binary name is longer than 240 bytes of modified UTF-8.
-    LongBinary,
+    LongBinary = 28,
     /// A type is inferred from itself, or a chain of bounds or parents comes back to its start.
-    Cyclic,
+    Cyclic = 30,
     /// A question about types went past the height of 100.
-    TooDeep,
+    TooDeep = 31,
     /// A value cannot be adapted to the expected type.
-    Mismatch,
+    Mismatch = 32,
     /// A count of arguments or sub-patterns differs.
-    WrongCount,
+    WrongCount = 33,
     /// No overloaded alternative applies.
-    NoAlternative,
+    NoAlternative = 34,
     /// No overloaded alternative is most specific.
-    TwoAlternatives,
+    TwoAlternatives = 35,
     /// Type arguments cannot be solved.
-    NoInstance,
+    NoInstance = 36,
     /// The type of a function literal's parameter is not known.
-    NoParamType,
+    NoParamType = 37,
     /// There is no value for an implicit parameter.
-    NoImplicit,
+    NoImplicit = 38,
     /// Two values for an implicit parameter, none more specific.
-    TwoImplicits,
+    TwoImplicits = 39,
     /// The search for an implicit value does not end.
-    Diverging,
+    Diverging = 40,
     /// The left side of an assignment cannot be assigned.
-    NotVariable,
+    NotVariable = 41,
     /// No value of the scrutinee's type can match, or a variable stands in an alternative.
-    BadPattern,
+    BadPattern = 42,
     /// `new` of a trait or an abstract class without a body.
-    BadNew,
+    BadNew = 43,
     /// An array of an abstract type that may not be a reference.
-    GenericArray,
+    GenericArray = 44,
     /// `super.m` has no concrete target.
-    BadSuper,
+    BadSuper = 45,
     /// A wrong number of type arguments.
-    TypeCount,
+    TypeCount = 46,
     /// Type arguments break their bounds.
-    Bounds,
+    Bounds = 47,
     /// A parent is final, sealed elsewhere, a class in a later place, or a trait whose superclass is missing.
-    BadParent,
+    BadParent = 50,
     /// A class is named twice among the parents.
-    TwiceParent,
+    TwiceParent = 51,
     /// A class that is not abstract has an abstract member.
-    Abstract,
+    Abstract = 52,
     /// A member overrides another against the rules of overriding.
-    BadOverride,
+    BadOverride = 53,
     /// Two members have one name and one erased signature.
-    ErasedClash,
+    ErasedClash = 54,
     /// A variant parameter stands in a wrong position.
-    Variance,
+    Variance = 55,
     /// Two binary names are equal.
-    BinaryClash,
+    BinaryClash = 56,
     /// A case class has a case class among its parents.
-    BadCase,
+    BadCase = 57,
     /// An implicit class or view has not exactly one explicit parameter.
-    BadImplicit,
+    BadImplicit = 58,
 }
 
 impl Rule {
@@ -113,57 +113,6 @@ impl Rule {
     pub fn number(self) -> u8
         ensures { result ≡ number_of self }
     {
-        match self {
-            Rule::BadChar => 1,
-            Rule::OpenComment => 2,
-            Rule::OpenText => 3,
-            Rule::BadEscape => 4,
-            Rule::BadNumber => 5,
-            Rule::BadName => 6,
-            Rule::LongText => 7,
-            Rule::LeftOutToken => 8,
-            Rule::Unexpected => 10,
-            Rule::MixedAssoc => 11,
-            Rule::TooNested => 12,
-            Rule::Range => 13,
-            Rule::NamedArgument => 14,
-            Rule::FreeUnderscore => 15,
-            Rule::DoubleName => 20,
-            Rule::NotFound => 21,
-            Rule::TwoBindings => 22,
-            Rule::NotMember => 23,
-            Rule::NoAccess => 24,
-            Rule::Forward => 25,
-            Rule::NotStable => 26,
-            Rule::WrongKind => 27,
-            Rule::LongBinary => 28,
-            Rule::Cyclic => 30,
-            Rule::TooDeep => 31,
-            Rule::Mismatch => 32,
-            Rule::WrongCount => 33,
-            Rule::NoAlternative => 34,
-            Rule::TwoAlternatives => 35,
-            Rule::NoInstance => 36,
-            Rule::NoParamType => 37,
-            Rule::NoImplicit => 38,
-            Rule::TwoImplicits => 39,
-            Rule::Diverging => 40,
-            Rule::NotVariable => 41,
-            Rule::BadPattern => 42,
-            Rule::BadNew => 43,
-            Rule::GenericArray => 44,
-            Rule::BadSuper => 45,
-            Rule::TypeCount => 46,
-            Rule::Bounds => 47,
-            Rule::BadParent => 50,
-            Rule::TwiceParent => 51,
-            Rule::Abstract => 52,
-            Rule::BadOverride => 53,
-            Rule::ErasedClash => 54,
-            Rule::Variance => 55,
-            Rule::BinaryClash => 56,
-            Rule::BadCase => 57,
-            Rule::BadImplicit => 58,
-        }
+        self as u8
     }
 }

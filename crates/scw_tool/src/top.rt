@@ -11,10 +11,10 @@ ghost use Rattle.scw_tool.specs.Source.{Sum, fits_sum};
 ghost use Rattle.scw_tool.specs.Words.{job_file, job_name};
 
 use crate::answer::{Answer, Outcome};
+use crate::error_line::report;
 use crate::pipeline::{Finished, Made, execute, make};
 use crate::put_said::put_said;
 use crate::reader::{Sum, read_source};
-use crate::report::report;
 use crate::words::{file_of, name_of};
 use scw_outside::{Sink, Store, StoreFault};
 use scw_text::NoMemory;

@@ -1,7 +1,7 @@
 use Rattle.std.proofs.Common.{◌∙◌, ap, sym}
 use Rattle.scw_tool.specs.Status.{line_of, read_fault_line, shown_name}
 use Rattle.scw_tool.proofs.PutLemmas.{put_same}
-use Rattle.scw_tool.proofs.report.report.Goals as goal
+use Rattle.scw_tool.proofs.error_line.report.Goals as goal
 
 pub returns-in-ReadFault-clause-done : goal.returns-in-ReadFault-clause-done
 returns-in-ReadFault-clause-done g c = λ words h.
