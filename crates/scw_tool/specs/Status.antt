@@ -16,6 +16,11 @@ number_of status.WriteFault = 4
 number_of status.NoMemory = 12
 number_of status.NotBuilt = 14
 
+-- a number with which the program ends
+pub record IsStatus (n : ℕ) : Type 0 where
+  pub status : Status
+  pub is : n ≡ number_of status
+
 -- ---- the parts of an answer
 
 abbrev pub status_of : Answer → Status

@@ -6,7 +6,7 @@ ghost use Rattle.std.specs.String.{string_bytes};
 ghost use Rattle.scw_outside.specs.Causes.{Rose};
 ghost use Rattle.scw_outside.specs.Content.{HasName};
 ghost use Rattle.scw_tool.specs.Job.{Edge, Comes, PrintsValue, Executed, CutOff, Judged, IsReady, Went, has_run, is_judged};
-ghost use Rattle.scw_tool.specs.Status.{SaysLine};
+ghost use Rattle.scw_tool.specs.Status.{IsStatus, SaysLine};
 ghost use Rattle.scw_tool.specs.Source.{Sum, fits_sum};
 ghost use Rattle.scw_tool.specs.Words.{job_file, job_name};
 
@@ -108,6 +108,8 @@ pub fn scw_main<S: Store, O: Sink, E: Sink>(
     ensures files { has_run result.status ≡ false → result.files ≡ [] }
     ensures steps { has_run result.status ≡ false → result.steps ≡ 0 }
     ensures refusal { result.refusal ≡ None }
+    // The status is one of those that have a name. No clause but the next speaks of `err`, so its failure changes nothing else.
+    ensures known { IsStatus result.status }
     // The line for the status, where `err` doesn't fail.
     ensures said { (Rose (E.fault_count err.old) (E.fault_count err.new) → ⊥) → SaysLine (map string_bytes words.now.items) result.status (E.taken err.old) (E.taken err.new) }
     // The store's files are as before, and so is `out` where nothing was run.

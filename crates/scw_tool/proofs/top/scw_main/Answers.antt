@@ -1,6 +1,7 @@
 use Rattle.std.proofs.Common.{◌∙◌, map, sym, ap}
 use Rattle.std.specs.String.{string_bytes}
 use Rattle.scw_tool.specs.Job.{has_run}
+use Rattle.scw_tool.specs.Status.{status_of}
 use Rattle.scw_tool.proofs.TopLemmas.{run_is, headline_is, words_are, read_is, has_is, write_is, cut_is, not_built_is, out_is, complete_is, files_are, steps_are}
 use Rattle.scw_tool.proofs.top.scw_main.Goals as goal
 
@@ -33,6 +34,9 @@ returns-clause-files g c = λ h. c.into_outcome.ensures.files ∙ files_are c.an
 
 pub returns-clause-steps : goal.returns-clause-steps
 returns-clause-steps g c = λ h. c.into_outcome.ensures.steps ∙ steps_are c.answer_to-answer.result (ap has_run (sym c.into_outcome.ensures.status) ∙ h)
+
+pub returns-clause-known : goal.returns-clause-known
+returns-clause-known g c = record { status = status_of c.answer_to-answer.result; is = c.into_outcome.ensures.status }
 
 pub returns-clause-out : goal.returns-clause-out
 returns-clause-out g c = λ h. out_is _ c.answer_to-answer.result (c.answer_to-answer.ensures.comes (map string_bytes c.args.words.now.items) (rw c.as_slice.ensures.value at c.file_of-file.ensures)) (ap has_run (sym c.into_outcome.ensures.status) ∙ h)
