@@ -1,0 +1,5 @@
+pub mod ByteLemmas
+pub mod UnitLemmas
+pub mod ModifiedLemmas
+pub mod ReadModifiedLemmas
+pub mod PlaceLemmas
