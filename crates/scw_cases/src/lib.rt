@@ -1,11 +1,13 @@
-//! Cases that go through the whole compiler: a call's words and a store go in, and the status, the
-//! class file and what was put are held against literals.
+//! Cases that cross crates, held against literals: a call's words and a store go in, and the status,
+//! the class file and what was put come out; bytes go in, and the class or the first fault comes out.
 //!
 //! It has tests alone.
 #![tactic(auto)]
 
 #[cfg(test)]
 mod call;
+#[cfg(test)]
+mod class_files;
 #[cfg(test)]
 mod faults;
 #[cfg(test)]

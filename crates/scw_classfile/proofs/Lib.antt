@@ -1,3 +1,10 @@
-pub mod ReadLemmas
 pub mod CodecLemmas
+pub mod ListLemmas
+pub mod PoolLemmas
 pub mod FormatLemmas
+pub mod ReadLemmas
+pub mod DescriptorLemmas
+pub mod DescriptorGrammarLemmas
+pub mod PoolFlawLemmas
+pub mod EntriesSize
+pub mod CodeFlawLemmas

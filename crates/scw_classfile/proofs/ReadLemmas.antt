@@ -1,11 +1,11 @@
 -- Reading values one after another, as a loop does.
-use Rattle.std.proofs.Common.{◌≡◌, ℕ, zero, suc, ◌-◌, ◌+◌, ◌≤◌, ◌<◌, List, [], ◌∷◌, ◌++◌, length, Result, Ok, Err, refl, sym, ap, ◌∙◌, append_assoc, arith}
-use Rattle.std.proofs.lemmas.Bool.{le-ltb, lt-ltb}
+use Rattle.std.proofs.Common.{◌≡◌, ℕ, suc, ◌-◌, ◌+◌, ◌≤◌, ◌<◌, Bool, List, [], ◌∷◌, ◌++◌, Some, None, Result, Ok, Err, refl, sym, ap, ◌∙◌, append_assoc, arith}
 use Rattle.std.proofs.lemmas.List.{append-nil}
 use Rattle.scw_classfile.specs.declared.fault.Fault.{Fault}
 use Rattle.scw_classfile.specs.declared.fault.ReadFault.{ReadFault}
 use Rattle.scw_classfile.specs.declared.fault.ReadFault.TheVariants.{Broken, NoMemory}
-use Rattle.scw_classfile.specs.Codec.{Read, ◌>>=◌, read_all, read_until, ended, with_front}
+use Rattle.scw_classfile.specs.Codec.{Read, Codec, ◌>>=◌, read_all, with_front, read_flagged}
+use Rattle.scw_classfile.specs.Code.{after_attribute, after_attributes}
 use Rattle.scw_classfile.specs.Gives.{Fails}
 
 -- a value that is read goes to the end of the front
@@ -43,36 +43,45 @@ module _ {A : Type 0} (r : Read A) (front : List A) (count i : ℕ) (bytes : Lis
       let one : with_front front (read_all r (count - i) bytes) ≡ Ok (front, bytes) = rw k (ap (λ (xs : List A). Ok (xs, bytes)) (append-nil front)) in
       sym so_far ∙ one
 
-  module _ (after : ℕ) where
-    -- one value more of those before the end
-    pub until_goes_on : (x : A) (more : List ℕ) → i < count → after < length bytes → r bytes ≡ Ok (x, more)
-        → with_front front (read_until r after (count - i) bytes) ≡ total → with_front (front ++ x ∷ []) (read_until r after (count - (i + 1)) more) ≡ total
-    unfolding read_until
-    until_goes_on x more lt inside h so_far =
-        let k : count - i ≡ suc (count - (i + 1)) = omega arith in
-        let one : with_front front (read_until r after (count - i) bytes) ≡ with_front (front ++ x ∷ []) (read_until r after (count - (i + 1)) more) = rw (k, lt-ltb after (length bytes) inside, h) (regroup front x (read_until r after (count - (i + 1)) more)) in
-        sym one ∙ so_far
+-- the same for a list whose items depend on those before
+module _ {A : Type 0} (item : Bool → ℕ → Codec A) (next : Bool → A → Bool) (front : List A) (flag : Bool) (count i : ℕ) (bytes : List ℕ) (total : Result (List A × List ℕ) Fault) where
+  pub flagged_goes_on : (x : A) (more : List ℕ) → i < count → (item flag (count - (i + 1))).read bytes ≡ Ok (x, more)
+      → with_front front (read_flagged item next flag (count - i) bytes) ≡ total → with_front (front ++ x ∷ []) (read_flagged item next (next flag x) (count - (i + 1)) more) ≡ total
+  unfolding read_flagged
+  flagged_goes_on x more lt h so_far =
+      let k : count - i ≡ suc (count - (i + 1)) = omega arith in
+      let one : with_front front (read_flagged item next flag (count - i) bytes) ≡ with_front (front ++ x ∷ []) (read_flagged item next (next flag x) (count - (i + 1)) more) = rw (k, h) (regroup front x (read_flagged item next (next flag x) (count - (i + 1)) more)) in
+      sym one ∙ so_far
 
-    -- a value before the end that isn't read
-    pub until_fails : (e : ReadFault) → i < count → after < length bytes → Fails e (r bytes) → with_front front (read_until r after (count - i) bytes) ≡ total → Fails e total
-    unfolding read_until
-    until_fails e lt inside h so_far =
-        let k : count - i ≡ suc (count - (i + 1)) = omega arith in
-        rw (sym so_far, k, lt-ltb after (length bytes) inside) (all_fails e front (λ x. read_until r after (count - (i + 1)) x.1 >>= λ xs. Ok (x.0 ∷ xs.0, xs.1)) (r bytes) h)
+  pub flagged_ends : (e : ReadFault) → i < count → Fails e ((item flag (count - (i + 1))).read bytes) → with_front front (read_flagged item next flag (count - i) bytes) ≡ total → Fails e total
+  unfolding read_flagged
+  flagged_ends e lt h so_far =
+      let k : count - i ≡ suc (count - (i + 1)) = omega arith in
+      rw (sym so_far, k) (all_fails e front (λ x. read_flagged item next (next flag x.0) (count - (i + 1)) x.1 >>= λ xs. Ok (x.0 ∷ xs.0, xs.1)) ((item flag (count - (i + 1))).read bytes) h)
 
-    -- no more than the bytes after the part are left
-    at_end : (n : ℕ) → length bytes ≤ after → read_until r after n bytes ≡ ended after bytes
-    unfolding read_until
-    at_end zero le = refl
-    at_end (suc n) le = rw (le-ltb after (length bytes) le) refl
+  pub flagged_is_done : count ≤ i → with_front front (read_flagged item next flag (count - i) bytes) ≡ total → total ≡ Ok (front, bytes)
+  unfolding read_flagged
+  flagged_is_done le so_far =
+      let k : count - i ≡ 0 = omega arith in
+      let one : with_front front (read_flagged item next flag (count - i) bytes) ≡ Ok (front, bytes) = rw k (ap (λ (xs : List A). Ok (xs, bytes)) (append-nil front)) in
+      sym so_far ∙ one
 
-    pub until_ends : length bytes ≤ after → with_front front (read_until r after (count - i) bytes) ≡ total → with_front front (ended after bytes) ≡ total
-    until_ends le so_far = ap (with_front front) (sym (at_end (count - i) le)) ∙ so_far
+-- ---- attributes that are passed
 
-    -- no value more may be read
-    pub until_is_done : count ≤ i → with_front front (read_until r after (count - i) bytes) ≡ total → with_front front (ended after bytes) ≡ total
-    unfolding read_until
-    until_is_done le so_far =
-        let k : count - i ≡ 0 = omega arith in
-        let one : with_front front (read_until r after (count - i) bytes) ≡ with_front front (ended after bytes) = rw k refl in
-        sym one ∙ so_far
+pub passed_more : (count i : ℕ) (bytes rest : List ℕ) → i < count → after_attribute bytes ≡ Some rest → after_attributes (count - i) bytes ≡ after_attributes (count - (i + 1)) rest
+unfolding after_attributes
+passed_more count i bytes rest lt h =
+    let k : count - i ≡ suc (count - (i + 1)) = omega arith in
+    rw (k, h) refl
+
+pub not_passed : (count i : ℕ) (bytes : List ℕ) → i < count → after_attribute bytes ≡ None → after_attributes (count - i) bytes ≡ None
+unfolding after_attributes
+not_passed count i bytes lt h =
+    let k : count - i ≡ suc (count - (i + 1)) = omega arith in
+    rw (k, h) refl
+
+pub all_passed : (count i : ℕ) (bytes : List ℕ) → count ≤ i → after_attributes (count - i) bytes ≡ Some bytes
+unfolding after_attributes
+all_passed count i bytes le =
+    let k : count - i ≡ 0 = omega arith in
+    rw k refl

@@ -1,127 +1,29 @@
--- The format of class files: JVMS 4.1, 4.4 to 4.7 and 6.5, one codec a structure, under its name.
-use Rattle.std.specs.Prelude.{ℕ, ◌+◌, ◌-◌, Bool, true, false, ◌&&◌, not, List, [], ◌∷◌, ◌++◌, length, drop, Option, Some, None, slice_get, Ok, Err, nat_lt, nat_eq, ◌==◌, if◌then◌else◌, codes}
-use Rattle.std.specs.List.{list_all}
-use Rattle.std.specs.Cmp.Lexicographic.{pointwise}
-use Rattle.scw_classfile.specs.declared.class_file.PoolEntry.{PoolEntry}
-use Rattle.scw_classfile.specs.declared.class_file.PoolEntry.TheVariants.{Utf8, Integer, Class, Str, Fieldref, Methodref, NameAndType}
+-- The format of class files: JVMS 4.1, 4.5 to 4.7, one codec a structure, under its name.
+use Rattle.std.specs.Prelude.{ℕ, Bool, true, false, ◌&&◌, ◌||◌, not, List, [], ◌++◌, Ok, nat_le, ◌==◌, if◌then◌else◌}
+use Rattle.scw_code.specs.declared.instr.Instr.{Instr}
+use Rattle.scw_code.specs.Jump.{starts}
+use Rattle.scw_classfile.specs.declared.access_flags.AccessFlags.{AccessFlags}
 use Rattle.scw_classfile.specs.declared.class_file.Handler.{Handler}
 use Rattle.scw_classfile.specs.declared.class_file.Attribute.{Attribute}
 use Rattle.scw_classfile.specs.declared.class_file.AttrBody.{AttrBody}
-use Rattle.scw_classfile.specs.declared.class_file.AttrBody.TheVariants as body
+use Rattle.scw_classfile.specs.declared.class_file.AttrBody.TheVariants as attr_body
 use Rattle.scw_classfile.specs.declared.class_file.Code.{Code, out-Code, roll-Code}
 use Rattle.scw_classfile.specs.declared.class_file.MemberInfo.{MemberInfo}
 use Rattle.scw_classfile.specs.declared.class_file.ClassFile.{ClassFile}
 use Rattle.scw_classfile.specs.declared.class_rule.ClassRule.TheVariants as class_rule
-use Rattle.scw_classfile.specs.declared.instr.Instr.{Instr}
-use Rattle.scw_classfile.specs.declared.instr.Instr.TheVariants.{Aload0, LdcW, Dup, Iadd, Imul, Areturn, Return, Invokevirtual, Invokespecial, Invokestatic, New}
-use Rattle.scw_classfile.specs.Codec.{Read, Codec, ◌>>=◌, here, u2, u4, read_byte, followed, seen_as, checked, listed, counted, measured, filled, sized}
-use Rattle.scw_classfile.specs.Instr.{opcode_of, index_of}
+use Rattle.scw_classfile.specs.declared.index.Expected.{Expected}
+use Rattle.scw_classfile.specs.declared.index.Expected.TheVariants as expected
+use Rattle.scw_classfile.specs.declared.pool_entry.EntryKind.{EntryKind}
+use Rattle.scw_classfile.specs.declared.pool_entry.PoolEntry.{PoolEntry}
+use Rattle.scw_classfile.specs.declared.pool_entry.TextKind.{TextKind}
+use Rattle.scw_classfile.specs.Codec.{Read, Codec, ◌>>=◌, u2, u4, followed, seen_as, seen_if, judged, counted, flagged, measured, sized, first_of_two, unless}
+use Rattle.scw_classfile.specs.Kinds.{is_index, index_flaw, text_flaw, is_text_that, is_class_that, is_code_text, is_object_text, is_field_text, is_method_text, kinds_of}
+use Rattle.scw_classfile.specs.Pool.{pool}
+use Rattle.scw_classfile.specs.Code.{code_array, code_end, handler}
 
-abbrev pub two : Codec (ℕ × ℕ)
-two = followed u2 (λ _. u2)
-
--- ---- the constant pool: JVMS 4.4
-
--- ASCII without NUL, whose units are the bytes themselves in modified UTF-8: JVMS 4.4.7
-abbrev pub is_plain_unit : ℕ → Bool
-is_plain_unit u = nat_lt 0 u && nat_lt u 128
-
--- from the first unit that isn't plain
-abbrev pub after_plain : List ℕ → List ℕ
-after_plain [] = []
-after_plain (u ∷ us) = if is_plain_unit u then after_plain us else u ∷ us
-
--- length u2, bytes: JVMS 4.4.7, for the texts whose units are plain
-abbrev pub text : Codec (List ℕ)
-text = checked (list_all is_plain_unit) (λ bytes. here class_rule.Utf8 (after_plain (drop 2 bytes))) (measured u2)
-
--- the tags: JVMS table 4.4-A
-abbrev pub tag_of : PoolEntry → ℕ
-tag_of (Utf8 us) = 1
-tag_of (Integer n) = 3
-tag_of (Class n) = 7
-tag_of (Str n) = 8
-tag_of (Fieldref c n) = 9
-tag_of (Methodref c n) = 10
-tag_of (NameAndType n d) = 12
-
--- what stands behind the tag: JVMS 4.4.1 to 4.4.7
-abbrev pub info_of : PoolEntry → List ℕ
-info_of (Utf8 us) = text.spell us
-info_of (Integer n) = u4.spell n
-info_of (Class n) = u2.spell n
-info_of (Str n) = u2.spell n
-info_of (Fieldref c n) = two.spell (c, n)
-info_of (Methodref c n) = two.spell (c, n)
-info_of (NameAndType n d) = two.spell (n, d)
-
-abbrev pub entry_fits : PoolEntry → Bool
-entry_fits (Utf8 us) = text.fits us
-entry_fits (Integer n) = u4.fits n
-entry_fits (Class n) = u2.fits n
-entry_fits (Str n) = u2.fits n
-entry_fits (Fieldref c n) = two.fits (c, n)
-entry_fits (Methodref c n) = two.fits (c, n)
-entry_fits (NameAndType n d) = two.fits (n, d)
-
--- the entry whose tag was read
-abbrev pub read_info : ℕ → Read PoolEntry
-read_info tag bytes =
-    if tag == tag_of (Utf8 []) then (text.read bytes >>= λ x. Ok (Utf8 x.0, x.1))
-    else if tag == tag_of (Integer 0) then (u4.read bytes >>= λ x. Ok (Integer x.0, x.1))
-    else if tag == tag_of (Class 0) then (u2.read bytes >>= λ x. Ok (Class x.0, x.1))
-    else if tag == tag_of (Str 0) then (u2.read bytes >>= λ x. Ok (Str x.0, x.1))
-    else if tag == tag_of (Fieldref 0 0) then (two.read bytes >>= λ x. Ok (Fieldref x.0.0 x.0.1, x.1))
-    else if tag == tag_of (Methodref 0 0) then (two.read bytes >>= λ x. Ok (Methodref x.0.0 x.0.1, x.1))
-    else if tag == tag_of (NameAndType 0 0) then (two.read bytes >>= λ x. Ok (NameAndType x.0.0 x.0.1, x.1))
-    else Err (record { rule = class_rule.Tag; left = length bytes + 1 })
-
-abbrev pub entry : Codec PoolEntry
-entry = record { spell = λ e. tag_of e ∷ info_of e; read = λ bytes. read_byte bytes >>= λ t. read_info t.0 t.1; fits = entry_fits }
-
--- constant_pool_count, which is one more than the number of entries: JVMS 4.1
-abbrev pub pool_count : Codec ℕ
-pool_count = seen_as (λ n. n - 1) (λ n. n + 1) (checked (λ n. not (n == 0)) (here class_rule.Tag) u2)
-
-abbrev pub pool : Codec (List PoolEntry)
-pool = listed pool_count entry
-
--- ---- instructions: JVMS 6.5
-
-abbrev pub index_bytes : Option ℕ → List ℕ
-index_bytes None = []
-index_bytes (Some n) = u2.spell n
-
-abbrev pub index_fits : Option ℕ → Bool
-index_fits None = true
-index_fits (Some n) = u2.fits n
-
--- the instruction made from its pool index
-abbrev pub read_index : (ℕ → Instr) → Read Instr
-read_index make bytes = u2.read bytes >>= λ x. Ok (make x.0, x.1)
-
--- the instruction whose opcode was read
-abbrev pub read_instr : ℕ → Read Instr
-read_instr opcode bytes =
-    if opcode == opcode_of Aload0 then Ok (Aload0, bytes)
-    else if opcode == opcode_of (LdcW 0) then read_index LdcW bytes
-    else if opcode == opcode_of Dup then Ok (Dup, bytes)
-    else if opcode == opcode_of Iadd then Ok (Iadd, bytes)
-    else if opcode == opcode_of Imul then Ok (Imul, bytes)
-    else if opcode == opcode_of Areturn then Ok (Areturn, bytes)
-    else if opcode == opcode_of Return then Ok (Return, bytes)
-    else if opcode == opcode_of (Invokevirtual 0) then read_index Invokevirtual bytes
-    else if opcode == opcode_of (Invokespecial 0) then read_index Invokespecial bytes
-    else if opcode == opcode_of (Invokestatic 0) then read_index Invokestatic bytes
-    else if opcode == opcode_of (New 0) then read_index New bytes
-    else Err (record { rule = class_rule.Code; left = length bytes + 1 })
-
-abbrev pub instr : Codec Instr
-instr = record {
-  spell = λ i. opcode_of i ∷ index_bytes (index_of i);
-  read = λ bytes. read_byte bytes >>= λ op. read_instr op.0 op.1;
-  fits = λ i. index_fits (index_of i);
-}
+-- an index that names what is expected
+abbrev pub index : ℕ → List EntryKind → Expected → Codec ℕ
+index major kinds e = judged (λ n. index_flaw major kinds e n 0) u2
 
 -- ---- attributes: JVMS 4.7
 
@@ -129,102 +31,155 @@ instr = record {
 abbrev pub raw : Codec (List ℕ)
 raw = measured u4
 
-abbrev pub bytes_of : AttrBody → List ℕ
-bytes_of (body.Code c) = []
-bytes_of (body.Other bs) = bs
+abbrev pub info_of : AttrBody → List ℕ
+info_of (attr_body.Code c) = []
+info_of (attr_body.Other bs) = bs
 
 abbrev pub is_other : AttrBody → Bool
-is_other (body.Code c) = false
-is_other (body.Other bs) = true
+is_other (attr_body.Code c) = false
+is_other (attr_body.Other bs) = true
 
 -- an attribute outside a method's own list
-abbrev pub other : Codec Attribute
-other = record {
-  spell = λ a. u2.spell a.name ++ raw.spell (bytes_of a.body);
-  read = λ bytes. u2.read bytes >>= λ n. raw.read n.1 >>= λ x. Ok (record { name = n.0; body = body.Other x.0 }, x.1);
-  fits = λ a. is_other a.body && (u2.fits a.name && raw.fits (bytes_of a.body));
-}
-
--- an entry of exception_table: JVMS 4.7.3
-abbrev pub handler : Codec Handler
-handler = seen_as (λ x. record { from = x.0; to = x.1.0; at = x.1.1.0; class = x.1.1.1 }) (λ h. (h.from, (h.to, (h.at, h.class))))
-    (followed u2 (λ _. followed u2 (λ _. followed u2 (λ _. u2))))
-
--- code_length: JVMS 4.7.3, above 0 and below 65536
-abbrev pub is_code_length : ℕ → Bool
-is_code_length n = nat_lt 0 n && nat_lt n 65536
-
-abbrev pub code_length : Codec ℕ
-code_length = checked is_code_length (here class_rule.Code) u4
+abbrev pub other : ℕ → List EntryKind → Codec Attribute
+other major kinds = seen_if (λ a. is_other a.body) (λ x. record { name = x.0; body = attr_body.Other x.1 }) (λ a. (a.name, info_of a.body))
+    (followed (index major kinds expected.Text) (λ _. raw))
 
 abbrev pub parts_of : Code → ℕ × (ℕ × (List Instr × (List Handler × List Attribute)))
 parts_of c = ((out-Code c).stack, ((out-Code c).locals, ((out-Code c).code, ((out-Code c).handlers, (out-Code c).attributes))))
 
+-- the exception table and the attributes of code whose instructions begin at these places
+abbrev pub code_tail : ℕ → List EntryKind → List Bool → Codec (List Handler × List Attribute)
+code_tail major kinds starts = followed (counted (handler major kinds starts)) (λ _. counted (other major kinds))
+
 -- what stands behind the length of the attribute Code: JVMS 4.7.3
-abbrev pub code : Codec Code
-code = seen_as (λ x. roll-Code (record { stack = x.0; locals = x.1.0; code = x.1.1.0; handlers = x.1.1.1.0; attributes = x.1.1.1.1 }))
+unfoldable pub code : ℕ → List EntryKind → Codec Code
+code major kinds = seen_as (λ x. roll-Code (record { stack = x.0; locals = x.1.0; code = x.1.1.0; handlers = x.1.1.1.0; attributes = x.1.1.1.1 }))
     parts_of
-    (followed u2 (λ _. followed u2 (λ _. followed (filled code_length instr) (λ _. followed (counted handler) (λ _. counted other)))))
+    (followed u2 (λ _. followed u2 (λ _. followed (code_array major kinds) (λ is. code_tail major kinds (starts is)))))
 
--- the entry is the name of the attribute Code
-abbrev pub is_code_entry : Option PoolEntry → Bool
-is_code_entry None = false
-is_code_entry (Some (Utf8 us)) = pointwise nat_eq us (codes "Code")
-is_code_entry (Some (Integer n)) = false
-is_code_entry (Some (Class n)) = false
-is_code_entry (Some (Str n)) = false
-is_code_entry (Some (Fieldref c n)) = false
-is_code_entry (Some (Methodref c n)) = false
-is_code_entry (Some (NameAndType n d)) = false
+abbrev pub sized_code : ℕ → List EntryKind → Codec Code
+sized_code major kinds = sized code_end (code major kinds)
 
--- the index is that of the name Code
-abbrev pub is_code : List PoolEntry → ℕ → Bool
-is_code p n = nat_lt 0 n && is_code_entry (slice_get p (n - 1))
-
+-- the body of an attribute in a method's own list, which is code where its name says so
 abbrev pub body_bytes : AttrBody → List ℕ
-body_bytes (body.Code c) = (sized code).spell c
-body_bytes (body.Other bs) = raw.spell bs
+body_bytes (attr_body.Code c) = (sized_code 0 []).spell c
+body_bytes (attr_body.Other bs) = raw.spell bs
 
--- the body is code where the name says so, and there alone
-abbrev pub body_fits : Bool → AttrBody → Bool
-body_fits true (body.Code c) = (sized code).fits c
-body_fits true (body.Other bs) = false
-body_fits false (body.Code c) = false
-body_fits false (body.Other bs) = raw.fits bs
+abbrev pub body_counts : AttrBody → Bool
+body_counts (attr_body.Code c) = (sized_code 0 []).counts c
+body_counts (attr_body.Other bs) = raw.counts bs
 
-abbrev pub read_body : Bool → Read AttrBody
-read_body true bytes = (sized code).read bytes >>= λ x. Ok (body.Code x.0, x.1)
-read_body false bytes = raw.read bytes >>= λ x. Ok (body.Other x.0, x.1)
+abbrev pub body_sound : ℕ → List EntryKind → Bool → AttrBody → Bool
+body_sound major kinds named (attr_body.Code c) = named && (sized_code major kinds).sound c
+body_sound major kinds named (attr_body.Other bs) = not named
 
-abbrev pub own_body : Bool → Codec AttrBody
-own_body named = record { spell = body_bytes; read = read_body named; fits = body_fits named }
+abbrev pub read_body : ℕ → List EntryKind → Bool → Read AttrBody
+read_body major kinds true bytes = (sized_code major kinds).read bytes >>= λ x. Ok (attr_body.Code x.0, x.1)
+read_body major kinds false bytes = raw.read bytes >>= λ x. Ok (attr_body.Other x.0, x.1)
 
--- an attribute in a method's own list
-abbrev pub own : List PoolEntry → Codec Attribute
-own p = seen_as (λ x. record { name = x.0; body = x.1 }) (λ a. (a.name, a.body)) (followed u2 (λ n. own_body (is_code p n)))
+abbrev pub own_body : ℕ → List EntryKind → Bool → Codec AttrBody
+own_body major kinds named = record { spell = body_bytes; counts = body_counts; sound = body_sound major kinds named; read = read_body major kinds named }
+
+-- the index is of the name of the attribute Code
+abbrev pub names_code : List EntryKind → ℕ → Bool
+names_code kinds n = is_text_that kinds is_code_text n
+
+-- the name of an attribute in a method's own list, which has one Code at most
+abbrev pub own_name : ℕ → List EntryKind → Bool → Codec ℕ
+own_name major kinds seen = judged (λ n. first_of_two (index_flaw major kinds expected.Text n 0) (unless (not (seen && names_code kinds n)) class_rule.Code 0)) u2
+
+-- an attribute in a method's own list, after a Code or before one
+abbrev pub own : ℕ → List EntryKind → Bool → Codec Attribute
+own major kinds seen = seen_as (λ x. record { name = x.0; body = x.1 }) (λ a. (a.name, a.body))
+    (followed (own_name major kinds seen) (λ n. own_body major kinds (names_code kinds n)))
+
+abbrev pub own_item : ℕ → List EntryKind → Bool → ℕ → Codec Attribute
+own_item major kinds seen follow = own major kinds seen
+
+abbrev pub own_seen : List EntryKind → Bool → Attribute → Bool
+own_seen kinds seen a = seen || names_code kinds a.name
+
+-- the bytes of an attribute in a method's own list, and whether its numbers fit their fields
+abbrev pub own_bytes : Attribute → List ℕ
+own_bytes a = u2.spell a.name ++ body_bytes a.body
+
+abbrev pub own_counts : Attribute → Bool
+own_counts a = u2.counts a.name && body_counts a.body
+
+abbrev pub own_list : ℕ → List EntryKind → Codec (List Attribute)
+own_list major kinds = flagged (own_item major kinds) (own_seen kinds) own_bytes own_counts u2
 
 -- ---- members and classes
 
+abbrev pub flags : Codec AccessFlags
+flags = seen_as (λ n. record { 0 = n }) (λ f. f.0) u2
+
+-- the index of a descriptor that passes the test
+abbrev pub descriptor : ℕ → List EntryKind → (TextKind → Bool) → Codec ℕ
+descriptor major kinds test = judged (λ n. text_flaw major kinds test n 0) u2
+
 -- field_info and method_info: JVMS 4.5, 4.6
-abbrev pub member : Codec Attribute → Codec MemberInfo
-member attribute = seen_as (λ x. record { flags = x.0; name = x.1.0; descriptor = x.1.1.0; attributes = x.1.1.1 }) (λ m. (m.flags, (m.name, (m.descriptor, m.attributes))))
-    (followed u2 (λ _. followed u2 (λ _. followed u2 (λ _. counted attribute))))
+abbrev pub member : ℕ → List EntryKind → (TextKind → Bool) → Codec (List Attribute) → Codec MemberInfo
+member major kinds test attributes = seen_as (λ x. record { flags = x.0; name = x.1.0; descriptor = x.1.1.0; attributes = x.1.1.1 }) (λ m. (m.flags, (m.name, (m.descriptor, m.attributes))))
+    (followed flags (λ _. followed (index major kinds expected.Text) (λ _. followed (descriptor major kinds test) (λ _. attributes))))
+
+abbrev pub field : ℕ → List EntryKind → Codec MemberInfo
+field major kinds = member major kinds is_field_text (counted (other major kinds))
+
+abbrev pub method : ℕ → List EntryKind → Codec MemberInfo
+method major kinds = member major kinds is_method_text (own_list major kinds)
 
 -- magic, which is cafebabe: JVMS 4.1
 abbrev pub magic : Codec ℕ
-magic = checked (λ n. n == 0xcafebabe) (here class_rule.Magic) u4
+magic = judged (λ n. unless (n == 0xcafebabe) class_rule.Magic 0) u4
+
+-- the major versions from JDK 1.0.2 to SE 8: JVMS 4.1
+abbrev pub major_version : Codec ℕ
+major_version = judged (λ n. unless (nat_le 45 n && nat_le n 52) class_rule.Version 0) u2
 
 -- magic, minor_version, major_version: JVMS 4.1
 abbrev pub start : Codec (ℕ × ℕ)
-start = seen_as (λ x. x.1) (λ v. (0xcafebabe, v)) (followed magic (λ _. two))
+start = seen_as (λ x. x.1) (λ v. (0xcafebabe, v)) (followed magic (λ _. followed u2 (λ _. major_version)))
 
--- what stands behind super_class, in a class with this pool: JVMS 4.1
-unfoldable pub tail : List PoolEntry → Codec (List ℕ × (List MemberInfo × (List MemberInfo × List Attribute)))
-tail p = followed (counted u2) (λ _. followed (counted (member other)) (λ _. followed (counted (member (own p))) (λ _. counted other)))
+-- a superclass, which java/lang/Object alone is without: JVMS 4.1
+abbrev pub parent_is : ℕ → List EntryKind → ℕ → ℕ → Bool
+parent_is major kinds this n = if n == 0 then is_class_that kinds is_object_text this else is_index major kinds expected.Class n
+
+abbrev pub parent : ℕ → List EntryKind → ℕ → Codec ℕ
+parent major kinds this = judged (λ n. unless (parent_is major kinds this n) class_rule.Index 0) u2
+
+abbrev pub interface : ℕ → List EntryKind → Codec ℕ
+interface major kinds = index major kinds expected.Class
+
+abbrev pub Tail : Type 0
+Tail = List ℕ × (List MemberInfo × (List MemberInfo × List Attribute))
+
+-- what stands behind super_class, in a class with a pool of these kinds: JVMS 4.1
+unfoldable pub tail : ℕ → List EntryKind → Codec Tail
+tail major kinds = followed (counted (interface major kinds)) (λ _. followed (counted (field major kinds)) (λ _. followed (counted (method major kinds)) (λ _. counted (other major kinds))))
+
+-- what stands behind the pool
+abbrev pub body : ℕ → List EntryKind → Codec (AccessFlags × (ℕ × (ℕ × Tail)))
+body major kinds = followed flags (λ _. followed (index major kinds expected.Class) (λ this. followed (parent major kinds this) (λ _. tail major kinds)))
+
+abbrev pub tail_of : ClassFile → Tail
+tail_of c = (c.interfaces, (c.fields, (c.methods, c.attributes)))
+
+abbrev pub body_of : ClassFile → AccessFlags × (ℕ × (ℕ × Tail))
+body_of c = (c.flags, (c.this, (c.parent, tail_of c)))
 
 -- ClassFile: JVMS 4.1
-abbrev pub class : Codec ClassFile
-class = seen_as
-    (λ x. record { minor = x.0.0; major = x.0.1; pool = x.1.0; flags = x.1.1.0; this = x.1.1.1.0; parent = x.1.1.1.1.0; interfaces = x.1.1.1.1.1.0; fields = x.1.1.1.1.1.1.0; methods = x.1.1.1.1.1.1.1.0; attributes = x.1.1.1.1.1.1.1.1 })
-    (λ c. ((c.minor, c.major), (c.pool, (c.flags, (c.this, (c.parent, (c.interfaces, (c.fields, (c.methods, c.attributes)))))))))
-    (followed start (λ _. followed pool (λ p. followed u2 (λ _. followed u2 (λ _. followed u2 (λ _. tail p))))))
+abbrev pub Parts : Type 0
+Parts = (ℕ × ℕ) × (List PoolEntry × (AccessFlags × (ℕ × (ℕ × Tail))))
+
+abbrev pub from_parts : Parts → ClassFile
+from_parts x = with_tail x.0 x.1.0 x.1.1 x.1.1.1.1.1
+  where
+    with_tail : ℕ × ℕ → List PoolEntry → AccessFlags × (ℕ × (ℕ × Tail)) → Tail → ClassFile
+    with_tail version p b t = record { minor = version.0; major = version.1; pool = p; flags = b.0; this = b.1.0; parent = b.1.1.0; interfaces = t.0; fields = t.1.0; methods = t.1.1.0; attributes = t.1.1.1 }
+
+abbrev pub to_parts : ClassFile → Parts
+to_parts c = ((c.minor, c.major), (c.pool, body_of c))
+
+unfoldable pub class : Codec ClassFile
+class = seen_as from_parts to_parts (followed start (λ v. followed (pool v.1) (λ p. body v.1 (kinds_of p))))

@@ -1,6 +1,11 @@
 pub mod ClassRule
 pub mod Codec
-pub mod Instr
-pub mod Format
 pub mod Gives
+pub mod Descriptor
+pub mod Kinds
+pub mod Pool
+pub mod Code
+pub mod Format
 pub mod ReadClass
+pub mod TextFault
+pub mod DescriptorGrammar

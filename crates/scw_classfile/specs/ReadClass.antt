@@ -7,8 +7,17 @@ use Rattle.scw_classfile.specs.declared.fault.ClassFault.TheVariants.{Bad, NoMem
 use Rattle.scw_classfile.specs.declared.fault.ClassRefusal.{ClassRefusal}
 use Rattle.scw_classfile.specs.declared.fault.Fault.{Fault}
 use Rattle.scw_classfile.specs.ClassRule.{number_of}
-use Rattle.scw_classfile.specs.Codec.{whole}
+use Rattle.scw_classfile.specs.Codec.{Fits, whole}
 use Rattle.scw_classfile.specs.Format.{class}
+
+-- the class can be written: its numbers and counts fit their fields, and its version, pool, indices,
+-- texts, descriptors, attributes and code break no rule
+abbrev pub IsWritable : ClassFile → Type 0
+IsWritable c = Fits class c
+
+-- the bytes are those of the class
+abbrev pub ClassBytes : ClassFile → List ℕ → Type 0
+ClassBytes c bytes = IsWritable c × (bytes ≡ class.spell c)
 
 -- the fault in a file of so many bytes, as it is reported
 abbrev pub refusal_of : ℕ → Fault → ClassRefusal
@@ -33,3 +42,9 @@ abbrev pub IsOkOrNoMemory : Result ClassFile ClassFault → ClassFile → Type 0
 IsOkOrNoMemory (Ok d) c = d ≡ c
 IsOkOrNoMemory (Err (Bad r)) c = ⊥
 IsOkOrNoMemory (Err NoMemory) c = Unit {0}
+
+-- the refusal has the property, if there is one
+abbrev pub IfBad : Result ClassFile ClassFault → (ClassRefusal → Type 0) → Type 0
+IfBad (Ok c) P = Unit {0}
+IfBad (Err (Bad r)) P = P r
+IfBad (Err NoMemory) P = Unit {0}

@@ -1,7 +1,9 @@
 //! What a class file holds: JVMS 4, with the fields in their order.
 
-use crate::instr::Instr;
-use scw_text::{Bytes, Text, Units};
+use crate::access_flags::AccessFlags;
+use crate::pool_entry::PoolEntry;
+use scw_code::Instrs;
+use scw_text::{Bytes, Text};
 use sqlite_items::Items;
 
 /// Places in the pool.
@@ -16,33 +18,11 @@ pub type MemberInfos = Items<MemberInfo>;
 /// Attributes, in order.
 pub type Attributes = Items<Attribute>;
 
-/// Instructions, in order.
-pub type Instrs = Items<Instr>;
-
 /// Exception handlers, in the order in which they are searched.
 pub type Handlers = Items<Handler>;
 
 /// Class files and their names.
 pub type Files = Items<FileOut>;
-
-/// An entry of the constant pool (JVMS 4.4).
-#[derive(Debug, Drop)]
-pub enum PoolEntry {
-    /// `CONSTANT_Utf8` (JVMS 4.4.7): a text, in UTF-16 units.
-    Utf8(Units),
-    /// `CONSTANT_Integer` (JVMS 4.4.4), by its bits.
-    Integer(u32),
-    /// `CONSTANT_Class` (JVMS 4.4.1): the index of the name.
-    Class(u16),
-    /// `CONSTANT_String` (JVMS 4.4.3): the index of the text.
-    Str(u16),
-    /// `CONSTANT_Fieldref` (JVMS 4.4.2): the class, then the name and type.
-    Fieldref(u16, u16),
-    /// `CONSTANT_Methodref` (JVMS 4.4.2): the class, then the name and type.
-    Methodref(u16, u16),
-    /// `CONSTANT_NameAndType` (JVMS 4.4.6): the name, then the descriptor.
-    NameAndType(u16, u16),
-}
 
 /// An entry of the exception table (JVMS 4.7.3).
 #[derive(Clone, Copy, Debug, PartialEq, Eq)]
@@ -92,7 +72,7 @@ pub struct Code {
 /// A field (JVMS 4.5) or a method (JVMS 4.6).
 #[derive(Drop)]
 pub struct MemberInfo {
-    pub flags: u16,
+    pub flags: AccessFlags,
     /// The index of the name.
     pub name: u16,
     /// The index of the descriptor.
@@ -106,7 +86,7 @@ pub struct ClassFile {
     pub minor: u16,
     pub major: u16,
     pub pool: Pool,
-    pub flags: u16,
+    pub flags: AccessFlags,
     /// The index of the class itself.
     pub this: u16,
     /// The index of its superclass, or 0.

@@ -1,88 +1,116 @@
 //! The attribute `Code`: JVMS 4.7.3.
 
-ghost use Rattle.std.specs.Prelude.{◌≡◌, ◌++◌, IsTrue, OnOk};
-ghost use Rattle.scw_classfile.specs.Codec.{filled, sized};
-ghost use Rattle.scw_classfile.specs.Format.{code, code_length, handler, instr};
+ghost use Rattle.std.specs.Prelude.{◌≡◌, ◌++◌, ℕ, [], IsTrue, OnOk};
+ghost use Rattle.std.specs.Option.{option_map};
+ghost use Rattle.scw_classfile.specs.Code.{after_attribute, after_attribute_list, after_attributes, after_handlers, after_measured, code_end, passed};
+ghost use Rattle.scw_classfile.specs.Format.{code, code_tail, sized_code};
 ghost use Rattle.scw_classfile.specs.Gives.{Gives};
 
-use crate::class_file::{Attribute, Code, Handler, Instrs, PoolEntry};
+use crate::class_file::{Attribute, Attributes, Code, Handler, Handlers};
 use crate::class_rule::ClassRule;
+use crate::code_array::{code_array_at, write_code_array};
+use crate::context::Context;
 use crate::fault::{Fault, ReadFault};
-use crate::field::{Field, Plain, read_counted, read_filled, write_counted, write_each};
-use crate::instr::Instr;
-use crate::number::{u2_at, u4_at, write_two};
+use crate::field::{Plain, read_counted, write_counted};
+use crate::number::{u2_at, u2_front, u4_at, u4_front, write_two};
 use std::alloc::{AllocError, Global};
 
-impl Field<Plain> for Handler {
-    ghost codec = { λ _. handler };
-
-    fn read<'b>(
-        _alloc: Global,
-        _pool: &[PoolEntry],
-        bytes: &'b [u8],
-    ) -> Result<(Handler, &'b [u8]), ReadFault> {
-        let (from, rest) = u2_at(bytes)?;
-        let (to, rest) = u2_at(rest)?;
-        let (at, rest) = u2_at(rest)?;
-        let (class, rest) = u2_at(rest)?;
-        let handler = Handler {
-            from,
-            to,
-            at,
-            class,
-        };
-        Ok((handler, rest))
-    }
-
-    fn write(&self, _pool: &[PoolEntry], out: &mut Vec<u8>) -> Result<(), AllocError> {
-        write_two(self.from, self.to, out)?;
-        write_two(self.at, self.class, out)
-    }
-}
-
-/// `code_length`, above 0 and below 65536.
-fn code_length_at(bytes: &[u8]) -> Result<(u32, &[u8]), ReadFault>
-    ensures { Gives (λ x. (x.0, x.1.now)) result (code_length.read bytes.now) }
+/// What follows so many bytes.
+fn passed(n: usize, bytes: &[u8]) -> Option<&[u8]>
+    ensures { option_map (λ r. r.now) result ≡ passed n bytes.now }
 {
-    let (count, rest) = u4_at(bytes)?;
-    if 0 < count && count < 65536 {
-        Ok((count, rest))
+    if bytes.len() < n {
+        None
     } else {
-        Err(ReadFault::Broken(Fault {
-            rule: ClassRule::Code,
-            left: bytes.len(),
-        }))
+        Some(&bytes[n..])
     }
 }
 
-/// `code_length, code`.
-fn instrs_at(alloc: Global, bytes: &[u8]) -> Result<(Instrs, &[u8]), ReadFault>
-    ensures { Gives (λ x. (x.0, x.1.now)) result ((filled code_length instr).read bytes.now) }
+/// What follows a length of four bytes and that many bytes.
+fn after_measured(bytes: &[u8]) -> Option<&[u8]>
+    ensures { option_map (λ r. r.now) result ≡ after_measured bytes.now }
 {
-    let (count, rest) = code_length_at(bytes)?;
-    read_filled::<Plain, Instr>(alloc, &[], count, rest)
+    let (n, rest) = u4_front(bytes)?;
+    passed(n as usize, rest)
 }
 
-fn write_instrs(alloc: Global, instrs: &[Instr], out: &mut Vec<u8>) -> Result<(), AllocError>
-    requires { IsTrue ((filled code_length instr).fits instrs.now) }
-    ensures { OnOk result (out.new.items ≡ out.old.items ++ (filled code_length instr).spell instrs.now) }
+/// What follows `attribute_name_index`, `attribute_length` and `info`.
+fn after_attribute(bytes: &[u8]) -> Option<&[u8]>
+    ensures { option_map (λ r. r.now) result ≡ after_attribute bytes.now }
 {
-    let mut code = Vec::new(alloc);
-    write_each::<Plain, Instr>(instrs, &[], &mut code)?;
-    let count = code.len() as u32;
-    out.extend_from_slice(&count.to_be_bytes())?;
-    out.extend_from_slice(&code)
+    let rest = passed(2, bytes)?;
+    after_measured(rest)
 }
 
-/// What stands behind the attribute's length.
-fn code_at(alloc: Global, bytes: &[u8]) -> Result<(Code, &[u8]), ReadFault>
-    ensures { Gives (λ x. (x.0, x.1.now)) result (code.read bytes.now) }
+/// What follows so many attributes.
+fn after_attributes(count: u16, bytes: &[u8]) -> Option<&[u8]>
+    ensures { option_map (λ r. r.now) result ≡ after_attributes count bytes.now }
+{
+    let mut rest = bytes;
+    for _ in 0..count {
+        rest = after_attribute(rest)?;
+    }
+    Some(rest)
+}
+
+/// What follows `attributes_count` and `attributes`.
+fn after_attribute_list(bytes: &[u8]) -> Option<&[u8]>
+    ensures { option_map (λ r. r.now) result ≡ after_attribute_list bytes.now }
+{
+    let (count, rest) = u2_front(bytes)?;
+    after_attributes(count, rest)
+}
+
+/// What follows `exception_table_length` and `exception_table`.
+fn after_handlers(bytes: &[u8]) -> Option<&[u8]>
+    ensures { option_map (λ r. r.now) result ≡ after_handlers bytes.now }
+{
+    let (count, rest) = u2_front(bytes)?;
+    passed(8 * count as usize, rest)
+}
+
+/// What follows the parts behind `attribute_length`, by their counts and lengths alone.
+#[tactic(auto, unfolding(crate::specs::Code::code_end))]
+fn code_end(bytes: &[u8]) -> Option<&[u8]>
+    ensures { option_map (λ r. r.now) result ≡ code_end bytes.now }
+{
+    let rest = passed(4, bytes)?;
+    let rest = after_measured(rest)?;
+    let rest = after_handlers(rest)?;
+    after_attribute_list(rest)
+}
+
+/// The exception table and the attributes of code whose instructions begin at these places.
+fn tail_at<'b>(
+    alloc: Global,
+    context: Context<'_>,
+    bytes: &'b [u8],
+) -> Result<((Handlers, Attributes), &'b [u8]), ReadFault>
+    ensures { Gives (λ x. (x.0, x.1.now)) result ((code_tail context.entry.major context.entry.kinds.now context.entry.starts.now).read bytes.now) }
+{
+    let (handlers, rest) = read_counted::<Plain, Handler>(alloc, context, bytes)?;
+    let (attributes, rest) = read_counted::<Plain, Attribute>(alloc, context, rest)?;
+    Ok(((handlers, attributes), rest))
+}
+
+/// What stands behind `attribute_length`.
+#[tactic(auto, unfolding(crate::specs::Format::code))]
+fn code_at<'b>(
+    alloc: Global,
+    context: Context<'_>,
+    bytes: &'b [u8],
+) -> Result<(Code, &'b [u8]), ReadFault>
+    ensures { Gives (λ x. (x.0, x.1.now)) result ((code context.entry.major context.entry.kinds.now).read bytes.now) }
 {
     let (stack, rest) = u2_at(bytes)?;
     let (locals, rest) = u2_at(rest)?;
-    let (code, rest) = instrs_at(alloc, rest)?;
-    let (handlers, rest) = read_counted::<Plain, Handler>(alloc, &[], rest)?;
-    let (attributes, rest) = read_counted::<Plain, Attribute>(alloc, &[], rest)?;
+    let ((code, marks), rest) = code_array_at(alloc, context, rest)?;
+    let inside = Context {
+        major: context.major,
+        kinds: context.kinds,
+        starts: &marks,
+    };
+    let ((handlers, attributes), rest) = tail_at(alloc, inside, rest)?;
     let code = Code {
         stack,
         locals,
@@ -93,38 +121,44 @@ fn code_at(alloc: Global, bytes: &[u8]) -> Result<(Code, &[u8]), ReadFault>
     Ok((code, rest))
 }
 
-fn write_code(alloc: Global, c: &Code, out: &mut Vec<u8>) -> Result<(), AllocError>
-    requires { IsTrue (code.fits c.now) }
-    ensures { OnOk result (out.new.items ≡ out.old.items ++ code.spell c.now) }
+#[tactic(auto, unfolding(crate::specs::Format::code))]
+fn write_code(c: &Code, out: &mut Vec<u8>) -> Result<(), AllocError>
+    requires { IsTrue ((code 0 []).counts c.now) }
+    ensures { OnOk result (out.new.items ≡ out.old.items ++ (code 0 []).spell c.now) }
 {
     write_two(c.stack, c.locals, out)?;
-    write_instrs(alloc, c.code.as_slice(), out)?;
-    write_counted::<Plain, Handler>(c.handlers.as_slice(), &[], out)?;
-    write_counted::<Plain, Attribute>(c.attributes.as_slice(), &[], out)
+    write_code_array(c.code.as_slice(), out)?;
+    write_counted::<Plain, Handler>(c.handlers.as_slice(), out)?;
+    write_counted::<Plain, Attribute>(c.attributes.as_slice(), out)
 }
 
 /// `attribute_length`, and code that takes so many bytes.
-pub fn sized_code_at(alloc: Global, bytes: &[u8]) -> Result<(Code, &[u8]), ReadFault>
-    ensures { Gives (λ x. (x.0, x.1.now)) result ((sized code).read bytes.now) }
+pub fn sized_code_at<'b>(
+    alloc: Global,
+    context: Context<'_>,
+    bytes: &'b [u8],
+) -> Result<(Code, &'b [u8]), ReadFault>
+    ensures { Gives (λ x. (x.0, x.1.now)) result ((sized_code context.entry.major context.entry.kinds.now).read bytes.now) }
 {
     let (size, rest) = u4_at(bytes)?;
-    let (code, after) = code_at(alloc, rest)?;
-    if rest.len().saturating_sub(after.len()) == size as usize {
-        Ok((code, after))
-    } else {
-        Err(ReadFault::Broken(Fault {
-            rule: ClassRule::AttributeLength,
-            left: bytes.len(),
-        }))
+    match code_end(rest) {
+        Some(after) if rest.len().saturating_sub(after.len()) != size as usize => {
+            Err(ReadFault::Broken(Fault {
+                rule: ClassRule::AttributeLength,
+                left: rest.len() + 4,
+            }))
+        }
+        Some(_) | None => code_at(alloc, context, rest),
     }
 }
 
-pub fn write_sized_code(alloc: Global, c: &Code, out: &mut Vec<u8>) -> Result<(), AllocError>
-    requires { IsTrue ((sized code).fits c.now) }
-    ensures { OnOk result (out.new.items ≡ out.old.items ++ (sized code).spell c.now) }
+/// Writes `attribute_length`, and the code.
+pub fn write_sized_code(c: &Code, out: &mut Vec<u8>) -> Result<(), AllocError>
+    requires { IsTrue ((sized_code 0 []).counts c.now) }
+    ensures { OnOk result (out.new.items ≡ out.old.items ++ (sized_code 0 []).spell c.now) }
 {
-    let mut inner = Vec::new(alloc);
-    write_code(alloc, c, &mut inner)?;
+    let mut inner = Vec::new(*out.allocator());
+    write_code(c, &mut inner)?;
     let size = inner.len() as u32;
     out.extend_from_slice(&size.to_be_bytes())?;
     out.extend_from_slice(&inner)

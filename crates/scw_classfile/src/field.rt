@@ -1,14 +1,13 @@
 //! Values that stand in a class file, and lists of them.
 
 ghost use Rattle.std.specs.List.{flat_map, list_all};
-ghost use Rattle.std.specs.Prelude.{◌≡◌, ◌++◌, List, IsTrue, OnOk};
-ghost use Rattle.scw_classfile.specs.Codec.{Codec, counted, ended, read_all, read_filled, read_until, with_front};
+ghost use Rattle.std.specs.Prelude.{◌≡◌, ◌++◌, ℕ, [], List, Bool, IsTrue, OnOk};
+ghost use Rattle.scw_classfile.specs.Codec.{Codec, counted, read_all, with_front};
 ghost use Rattle.scw_classfile.specs.Gives.{Gives};
-ghost use Rattle.scw_classfile.specs.declared.class_file.PoolEntry.{PoolEntry};
+ghost use Rattle.scw_classfile.specs.declared.pool_entry.EntryKind.{EntryKind};
 
-use crate::class_file::PoolEntry;
-use crate::class_rule::ClassRule;
-use crate::fault::{Fault, ReadFault};
+use crate::context::Context;
+use crate::fault::ReadFault;
 use crate::number::u2_at;
 use sqlite_items::Items;
 use std::alloc::{AllocError, Global};
@@ -16,40 +15,40 @@ use std::alloc::{AllocError, Global};
 /// The place of most values.
 pub struct Plain;
 
-/// A place in a method's own list of attributes.
+/// A place in the list of methods.
 pub struct Own;
 
-/// A value that stands in a class file with this pool, at places of the kind `M`.
+/// A value that stands in a class file, at places of the kind `M`.
 pub trait Field<M>: Sized + Drop {
-    ghost codec: { List PoolEntry → Codec Self };
+    ghost codec: { ℕ → List EntryKind → List Bool → Codec Self };
 
     /// The value that the bytes begin with, and the bytes after it.
     fn read<'b>(
         alloc: Global,
-        pool: &[PoolEntry],
+        context: Context<'_>,
         bytes: &'b [u8],
     ) -> Result<(Self, &'b [u8]), ReadFault>
-        ensures { Gives (λ x. (x.0, x.1.now)) result ((codec pool.now).read bytes.now) };
+        ensures { Gives (λ x. (x.0, x.1.now)) result ((codec context.entry.major context.entry.kinds.now context.entry.starts.now).read bytes.now) };
 
     /// Writes the bytes of the value.
-    fn write(&self, pool: &[PoolEntry], out: &mut Vec<u8>) -> Result<(), AllocError>
-        requires { IsTrue ((codec pool.now).fits self.now) }
-        ensures { OnOk result (out.new.items ≡ out.old.items ++ (codec pool.now).spell self.now) };
+    fn write(&self, out: &mut Vec<u8>) -> Result<(), AllocError>
+        requires { IsTrue ((codec 0 [] []).counts self.now) }
+        ensures { OnOk result (out.new.items ≡ out.old.items ++ (codec 0 [] []).spell self.now) };
 }
 
 /// So many values, one after another.
 pub fn read_times<'b, M, T: Field<M>>(
     alloc: Global,
-    pool: &[PoolEntry],
+    context: Context<'_>,
     count: u16,
     bytes: &'b [u8],
 ) -> Result<(Items<T>, &'b [u8]), ReadFault>
-    ensures { Gives (λ x. (x.0, x.1.now)) result (read_all (T.codec pool.now).read count bytes.now) }
+    ensures { Gives (λ x. (x.0, x.1.now)) result (read_all (T.codec context.entry.major context.entry.kinds.now context.entry.starts.now).read count bytes.now) }
 {
     let mut items = Items::new(alloc);
     let mut rest = bytes;
     for _ in 0..count {
-        let (item, after) = T::read(alloc, pool, rest)?;
+        let (item, after) = T::read(alloc, context, rest)?;
         items.push(item)?;
         rest = after;
     }
@@ -59,96 +58,32 @@ pub fn read_times<'b, M, T: Field<M>>(
 /// A count of two bytes, and that many values.
 pub fn read_counted<'b, M, T: Field<M>>(
     alloc: Global,
-    pool: &[PoolEntry],
+    context: Context<'_>,
     bytes: &'b [u8],
 ) -> Result<(Items<T>, &'b [u8]), ReadFault>
-    ensures { Gives (λ x. (x.0, x.1.now)) result ((counted (T.codec pool.now)).read bytes.now) }
+    ensures { Gives (λ x. (x.0, x.1.now)) result ((counted (T.codec context.entry.major context.entry.kinds.now context.entry.starts.now)).read bytes.now) }
 {
     let (count, rest) = u2_at(bytes)?;
-    read_times::<M, T>(alloc, pool, count, rest)
+    read_times::<M, T>(alloc, context, count, rest)
 }
 
 /// The values, one after another.
-pub fn write_each<M, T: Field<M>>(
-    items: &[T],
-    pool: &[PoolEntry],
-    out: &mut Vec<u8>,
-) -> Result<(), AllocError>
-    requires { IsTrue (list_all (T.codec pool.now).fits items.now) }
-    ensures { OnOk result (out.new.items ≡ out.old.items ++ flat_map (T.codec pool.now).spell items.now) }
+pub fn write_each<M, T: Field<M>>(items: &[T], out: &mut Vec<u8>) -> Result<(), AllocError>
+    requires { IsTrue (list_all (T.codec 0 [] []).counts items.now) }
+    ensures { OnOk result (out.new.items ≡ out.old.items ++ flat_map (T.codec 0 [] []).spell items.now) }
 {
     for item in items {
-        item.write(pool, out)?;
+        item.write(out)?;
     }
     Ok(())
 }
 
 /// The count in two bytes, and the values.
-pub fn write_counted<M, T: Field<M>>(
-    items: &[T],
-    pool: &[PoolEntry],
-    out: &mut Vec<u8>,
-) -> Result<(), AllocError>
-    requires { IsTrue ((counted (T.codec pool.now)).fits items.now) }
-    ensures { OnOk result (out.new.items ≡ out.old.items ++ (counted (T.codec pool.now)).spell items.now) }
+pub fn write_counted<M, T: Field<M>>(items: &[T], out: &mut Vec<u8>) -> Result<(), AllocError>
+    requires { IsTrue ((counted (T.codec 0 [] [])).counts items.now) }
+    ensures { OnOk result (out.new.items ≡ out.old.items ++ (counted (T.codec 0 [] [])).spell items.now) }
 {
     let count = items.len() as u16;
     out.extend_from_slice(&count.to_be_bytes())?;
-    write_each::<M, T>(items, pool, out)
-}
-
-/// The values, where only the bytes after the part are left.
-fn end<T: Drop>(items: Items<T>, after: usize, rest: &[u8]) -> Result<(Items<T>, &[u8]), ReadFault>
-    ensures { Gives (λ x. (x.0, x.1.now)) result (with_front items (ended after rest.now)) }
-{
-    if rest.len() == after {
-        Ok((items, rest))
-    } else {
-        Err(ReadFault::Broken(Fault {
-            rule: ClassRule::Code,
-            left: after,
-        }))
-    }
-}
-
-/// Values until only `after` bytes are left.
-pub fn read_until<'b, M, T: Field<M>>(
-    alloc: Global,
-    pool: &[PoolEntry],
-    after: usize,
-    limit: u32,
-    bytes: &'b [u8],
-) -> Result<(Items<T>, &'b [u8]), ReadFault>
-    ensures { Gives (λ x. (x.0, x.1.now)) result (read_until (T.codec pool.now).read after limit bytes.now) }
-{
-    let mut items = Items::new(alloc);
-    let mut rest = bytes;
-    for _ in 0..limit {
-        if rest.len() <= after {
-            return end(items, after, rest);
-        }
-        let (item, more) = T::read(alloc, pool, rest)?;
-        items.push(item)?;
-        rest = more;
-    }
-    end(items, after, rest)
-}
-
-/// Values that take so many bytes together.
-pub fn read_filled<'b, M, T: Field<M>>(
-    alloc: Global,
-    pool: &[PoolEntry],
-    count: u32,
-    bytes: &'b [u8],
-) -> Result<(Items<T>, &'b [u8]), ReadFault>
-    ensures { Gives (λ x. (x.0, x.1.now)) result (read_filled (T.codec pool.now).read count bytes.now) }
-{
-    let size = count as usize;
-    if bytes.len() < size {
-        return Err(ReadFault::Broken(Fault {
-            rule: ClassRule::Cut,
-            left: 0,
-        }));
-    }
-    read_until::<M, T>(alloc, pool, bytes.len() - size, count, bytes)
+    write_each::<M, T>(items, out)
 }

@@ -1,16 +1,16 @@
 //! Big-endian numbers and runs of bytes, at the front of the bytes.
 
-ghost use Rattle.std.specs.Int.{w16, w32};
+ghost use Rattle.std.specs.Int.{w16, w32, w64};
+ghost use Rattle.std.specs.Option.{option_map};
 ghost use Rattle.std.specs.Prelude.{◌≡◌, ◌++◌, OnOk};
-ghost use Rattle.scw_classfile.specs.Codec.{read_byte, read_bytes, read_number, u2};
-ghost use Rattle.scw_classfile.specs.Format.{two};
+ghost use Rattle.std.specs.Result.{result_ok};
+ghost use Rattle.scw_classfile.specs.Codec.{read_byte, read_bytes, read_number};
+ghost use Rattle.scw_classfile.specs.Pool.{two};
 ghost use Rattle.scw_classfile.specs.Gives.{Gives};
 
-use crate::class_file::PoolEntry;
 use crate::class_rule::ClassRule;
 use crate::fault::{Fault, ReadFault};
-use crate::field::{Field, Plain};
-use std::alloc::{AllocError, Global};
+use std::alloc::AllocError;
 
 /// The bytes end too early.
 const CUT: ReadFault = ReadFault::Broken(Fault {
@@ -37,6 +37,29 @@ pub fn u2_at(bytes: &[u8]) -> Result<(u16, &[u8]), ReadFault>
     Ok((u16::from_be_bytes([front[0], front[1]]), rest))
 }
 
+/// The number of two bytes, where there are so many.
+pub fn u2_front(bytes: &[u8]) -> Option<(u16, &[u8])>
+    ensures { option_map (λ x. (x.0, x.1.now)) result ≡ result_ok (read_number w16 bytes.now) }
+{
+    if bytes.len() < 2 {
+        return None;
+    }
+    let (front, rest) = bytes.split_at(2);
+    Some((u16::from_be_bytes([front[0], front[1]]), rest))
+}
+
+/// The number of four bytes, where there are so many.
+pub fn u4_front(bytes: &[u8]) -> Option<(u32, &[u8])>
+    ensures { option_map (λ x. (x.0, x.1.now)) result ≡ result_ok (read_number w32 bytes.now) }
+{
+    if bytes.len() < 4 {
+        return None;
+    }
+    let (front, rest) = bytes.split_at(4);
+    let number = u32::from_be_bytes([front[0], front[1], front[2], front[3]]);
+    Some((number, rest))
+}
+
 pub fn u4_at(bytes: &[u8]) -> Result<(u32, &[u8]), ReadFault>
     ensures { Gives (λ x. (x.0, x.1.now)) result (read_number w32 bytes.now) }
 {
@@ -45,6 +68,19 @@ pub fn u4_at(bytes: &[u8]) -> Result<(u32, &[u8]), ReadFault>
     }
     let (front, rest) = bytes.split_at(4);
     let number = u32::from_be_bytes([front[0], front[1], front[2], front[3]]);
+    Ok((number, rest))
+}
+
+pub fn u8_at(bytes: &[u8]) -> Result<(u64, &[u8]), ReadFault>
+    ensures { Gives (λ x. (x.0, x.1.now)) result (read_number w64 bytes.now) }
+{
+    if bytes.len() < 8 {
+        return Err(CUT);
+    }
+    let (front, rest) = bytes.split_at(8);
+    let number = u64::from_be_bytes([
+        front[0], front[1], front[2], front[3], front[4], front[5], front[6], front[7],
+    ]);
     Ok((number, rest))
 }
 
@@ -70,20 +106,4 @@ pub fn write_two(a: u16, b: u16, out: &mut Vec<u8>) -> Result<(), AllocError>
 {
     out.extend_from_slice(&a.to_be_bytes())?;
     out.extend_from_slice(&b.to_be_bytes())
-}
-
-impl Field<Plain> for u16 {
-    ghost codec = { λ _. u2 };
-
-    fn read<'b>(
-        _alloc: Global,
-        _pool: &[PoolEntry],
-        bytes: &'b [u8],
-    ) -> Result<(u16, &'b [u8]), ReadFault> {
-        u2_at(bytes)
-    }
-
-    fn write(&self, _pool: &[PoolEntry], out: &mut Vec<u8>) -> Result<(), AllocError> {
-        out.extend_from_slice(&self.to_be_bytes())
-    }
 }

@@ -1,9 +1,9 @@
 -- Instructions that stand in a list of code, by their places.
 use Rattle.std.proofs.Common.{◌≡◌, ℕ, eqb, ltb, ◌+◌, ◌*◌, ◌-◌, ◌<◌, ◌≤◌, cond, List, [], ◌∷◌, ◌++◌, length, Some, None, refl, ap, subst, ◌∙◌, arith}
 use Rattle.std.proofs.lemmas.Bool.{cond-false, ne_eqb, le-ltb}
-use Rattle.scw_classfile.specs.declared.instr.Instr.{Instr}
-use Rattle.scw_classfile.specs.declared.instr.Instr.TheVariants.{Aload0, LdcW, Dup, Iadd, Imul, Areturn, Return, Invokevirtual, Invokespecial, Invokestatic, New}
-use Rattle.scw_classfile.specs.Instr.{size_of}
+use Rattle.scw_tool.specs.declared.instr.Instr.{Instr}
+use Rattle.scw_tool.specs.declared.instr.Instr.TheVariants.{Aload0, LdcW, Dup, Iadd, Imul, Areturn, Return, Invokevirtual, Invokespecial, Invokestatic, New}
+use Rattle.scw_tool.specs.Instr.{size_of}
 use Rattle.scw_tool.specs.Resolve.{instr_at}
 
 -- the bytes of instructions

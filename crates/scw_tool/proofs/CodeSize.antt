@@ -1,11 +1,11 @@
 -- How long the code of a source is.
-use Rattle.std.proofs.Common.{◌≡◌, false, ◌+◌, ◌*◌, ◌≤◌, List, [], ◌∷◌, ◌++◌, length, refl, ap, arith, length-append, append-nil, IsTrue}
-use Rattle.scw_classfile.specs.declared.class_file.PoolEntry.{PoolEntry}
+use Rattle.std.proofs.Common.{◌≡◌, pos, false, ◌+◌, ◌*◌, ◌≤◌, List, [], ◌∷◌, ◌++◌, length, refl, ap, arith, length-append, append-nil, IsTrue}
+use Rattle.scw_classfile.specs.declared.pool_entry.PoolEntry.{PoolEntry}
 use Rattle.std.specs.Prelude.{codes}
 use Rattle.std.specs.List.{list_all}
 use Rattle.std.proofs.lemmas.Bool.{and_parts, false≢true}
-use Rattle.scw_classfile.specs.declared.instr.Instr.{Instr}
-use Rattle.scw_classfile.specs.declared.instr.Instr.TheVariants.{Invokestatic}
+use Rattle.scw_tool.specs.declared.instr.Instr.{Instr}
+use Rattle.scw_tool.specs.declared.instr.Instr.TheVariants.{Invokestatic}
 use Rattle.scw_tool.specs.declared.tree.Arithmetic.{Arithmetic}
 use Rattle.scw_tool.specs.declared.tree.Arithmetic.TheVariants.{Add, Multiply}
 use Rattle.scw_tool.specs.Tree.{Tree}
@@ -57,8 +57,8 @@ module _ (p : List PoolEntry) where
   joined_size : (a b : Tree) → length (code p (joined_tree a b)) ≤ length (code p a) + length (code p b) + 3
   joined_size a b = sizes (code p a) (code p b) (text_code (type_of b)) (text_size (type_of b))
     where
-      sizes : (x y t : List Instr) → length t ≤ 2 → length ((x ++ (y ++ [])) ++ (t ++ Invokestatic 24 ∷ [])) ≤ length x + length y + 3
-      sizes x y t h = omega (arith, length-append (x ++ (y ++ [])) (t ++ Invokestatic 24 ∷ []), length-append x (y ++ []), ap length (append-nil y), length-append t (Invokestatic 24 ∷ []), h)
+      sizes : (x y t : List Instr) → length t ≤ 2 → length ((x ++ (y ++ [])) ++ (t ++ Invokestatic (pos 24) ∷ [])) ≤ length x + length y + 3
+      sizes x y t h = omega (arith, length-append (x ++ (y ++ [])) (t ++ Invokestatic (pos 24) ∷ []), length-append x (y ++ []), ap length (append-nil y), length-append t (Invokestatic (pos 24) ∷ []), h)
 
   line_size : (e : Sum) → length (code p (line_tree e)) ≤ length (code p (sum_tree e)) + 8
   line_size e =

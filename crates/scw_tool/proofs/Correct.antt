@@ -1,8 +1,8 @@
 -- The class file of a source that says a sum prints that sum, as the source does.
-use Rattle.std.proofs.Common.{◌≡◌, ℕ, suc, ◌+◌, ◌-◌, ◌<◌, ◌≤◌, List, [], ◌∷◌, ◌++◌, length, refl, sym, ap, subst, ◌∙◌, arith, append-nil, IsTrue}
+use Rattle.std.proofs.Common.{◌≡◌, pos, ℕ, suc, ◌+◌, ◌-◌, ◌<◌, ◌≤◌, List, [], ◌∷◌, ◌++◌, length, refl, sym, ap, subst, ◌∙◌, arith, append-nil, IsTrue}
 use Rattle.scw_classfile.specs.declared.class_file.ClassFile.{ClassFile}
-use Rattle.scw_classfile.specs.declared.instr.Instr.{Instr}
-use Rattle.scw_classfile.specs.declared.instr.Instr.TheVariants.{Invokestatic, Return}
+use Rattle.scw_tool.specs.declared.instr.Instr.{Instr}
+use Rattle.scw_tool.specs.declared.instr.Instr.TheVariants.{Invokestatic, Return}
 use Rattle.scw_tool.specs.declared.state.Word.TheVariants as word
 use Rattle.scw_tool.specs.declared.state.HeapObject.{HeapObject}
 use Rattle.scw_tool.specs.declared.state.HeapObject.TheVariants as object
@@ -66,7 +66,7 @@ module _ (e : Sum) (fits : IsTrue (fits_sum e)) where
   own = code (pool_with numbers) (line_tree e)
 
   abbrev tail : List Instr
-  tail = Invokestatic 20 ∷ Invokestatic 40 ∷ []
+  tail = Invokestatic (pos 20) ∷ Invokestatic (pos 40) ∷ []
 
   has_whole : HasAt (instrs numbers body) 0 (((own ++ []) ++ tail) ++ Return ∷ [])
   has_whole = has_all (instrs numbers body)
@@ -115,12 +115,12 @@ module _ (e : Sum) (fits : IsTrue (fits_sum e)) where
 
   print_row : row K main_class at_print ≡ says line at_unit
   print_row =
-      row_at numbers body q (pushed.w ∷ []) hs 0 (Invokestatic 20) (op.BuiltIn built.Print) (omega (arith, small)) has_tail.0 refl
+      row_at numbers body q (pushed.w ∷ []) hs 0 (Invokestatic (pos 20)) (op.BuiltIn built.Print) (omega (arith, small)) has_tail.0 refl
       ∙ ap (λ k. with_text k (λ x. or_stuck (bytes_in x) (says_bytes (rest numbers body hs 0) (main_frame numbers body q (pushed.w ∷ [])) (q + 3) []))) (alike_text hs (string_v line) pushed.w line pushed.alike refl)
       ∙ ap (λ k. or_stuck k (says_bytes (rest numbers body hs 0) (main_frame numbers body q (pushed.w ∷ [])) (q + 3) [])) (line_bytes e)
 
   unit_row : row K main_class at_unit ≡ on at_return
-  unit_row = row_at numbers body (q + 3) [] hs 0 (Invokestatic 40) (op.BuiltIn built.Unit) (omega (arith, small)) has_tail.1.0 refl
+  unit_row = row_at numbers body (q + 3) [] hs 0 (Invokestatic (pos 40)) (op.BuiltIn built.Unit) (omega (arith, small)) has_tail.1.0 refl
 
   return_row : row K main_class at_return ≡ on at_end
   return_row = row_at numbers body (q + 3 + 3) (word.Reference (length hs + 1) ∷ []) (hs ++ object.Unit ∷ []) (length hs + 1) Return op.Return (omega (arith, small)) has_return.0 refl

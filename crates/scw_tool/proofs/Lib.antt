@@ -6,11 +6,14 @@ pub mod PoolLemmas
 pub mod SourceLaws
 pub mod MachineLaws
 pub mod CodeLemmas
+pub mod InstrLemmas
 pub mod Means
 pub mod SumMeans
 pub mod Whole
 pub mod CodeSize
 pub mod Correct
+pub mod PoolFitsLemmas
+pub mod CodeFitsLemmas
 pub mod FitsLemmas
 pub mod PutLemmas
 pub mod JobLemmas

@@ -1,15 +1,15 @@
 -- What a tree means and what its code does: the tree ends with a value after some nodes, and the machine pushes a word for it.
-use Rattle.std.proofs.Common.{◌≡◌, ℕ, zero, suc, ltb, leb, ◌+◌, ◌<◌, ◌≤◌, List, [], ◌∷◌, ◌++◌, length, Some, None, refl, sym, ap, subst, ◌∙◌, arith, append_assoc, append-nil, add-one}
+use Rattle.std.proofs.Common.{◌≡◌, pos, ℕ, zero, suc, ltb, leb, ◌+◌, ◌<◌, ◌≤◌, List, [], ◌∷◌, ◌++◌, length, Some, None, refl, sym, ap, subst, ◌∙◌, arith, append_assoc, append-nil, add-one}
 use Rattle.std.specs.Prelude.{slice_get}
 use Rattle.std.specs.Option.{option_map}
 use Rattle.std.proofs.lemmas.Bool.{cond-true, lt-ltb, le-leb}
-use Rattle.scw_classfile.specs.declared.class_file.PoolEntry.{PoolEntry}
-use Rattle.scw_classfile.specs.declared.class_file.PoolEntry.TheVariants as entry
+use Rattle.scw_classfile.specs.declared.pool_entry.PoolEntry.{PoolEntry}
+use Rattle.scw_classfile.specs.declared.pool_entry.PoolEntry.TheVariants as entry
 use Rattle.scw_classfile.specs.declared.class_file.ClassFile.{ClassFile}
 use Rattle.scw_classfile.specs.declared.class_file.Code.{out-roll-Code}
-use Rattle.scw_classfile.specs.declared.instr.Instr.{Instr}
-use Rattle.scw_classfile.specs.declared.instr.Instr.TheVariants.{LdcW, Iadd, Imul, Invokevirtual, Invokestatic}
-use Rattle.scw_classfile.specs.Instr.{size_of}
+use Rattle.scw_tool.specs.declared.instr.Instr.{Instr}
+use Rattle.scw_tool.specs.declared.instr.Instr.TheVariants.{LdcW, Iadd, Imul, Invokevirtual, Invokestatic}
+use Rattle.scw_tool.specs.Instr.{size_of}
 use Rattle.scw_tool.specs.declared.tree.Arithmetic as arithmetic_type
 use Rattle.scw_tool.specs.declared.tree.Arithmetic.TheVariants.{Add, Multiply}
 use Rattle.scw_tool.specs.declared.tree.Op.{Op}
@@ -39,6 +39,7 @@ use Rattle.scw_tool.specs.Generate.{number_index, string_index, code, text_code,
 use Rattle.scw_tool.specs.Source.{literal_tree, text_tree, arithmetic_tree, joined_tree}
 use Rattle.scw_tool.proofs.SourceLaws.{steps_add}
 use Rattle.scw_tool.proofs.RunLemmas.{turns_add}
+use Rattle.scw_tool.proofs.InstrLemmas.{simple_code-map}
 use Rattle.scw_tool.proofs.CodeLemmas.{span, HasAt, span-append, has_front, has_back}
 
 -- ---- the source
@@ -120,7 +121,7 @@ module _ (numbers : List ℕ) (body : Tree) where
   here pc st h u = record { frames = main_frame pc st ∷ launcher ∷ []; heap = h; unit = u }
 
   fetch_is : (pc : ℕ) → fetch files main_class (main_frame pc []).body pc ≡ fetch_in files p instrs pc
-  fetch_is pc = rw out-roll-Code refl
+  fetch_is pc = rw out-roll-Code (ap (λ (c : List Instr). fetch_in files p c pc) (simple_code-map instrs))
 
   fetch_at : (pc : ℕ) (i : Instr) (o : Operation) → pc < 65536 → instr_at instrs pc ≡ Some i → resolve files p i ≡ Some o → fetch_in files p instrs pc ≡ Some (fetched (pc + size_of i) o)
   fetch_at pc i o lt e r =
@@ -162,7 +163,7 @@ module _ (numbers : List ℕ) (body : Tree) where
   pub number_pushes : (n : ℕ) → at p (number_index p n) ≡ Some (entry.Integer n) → Pushes (code p (literal_tree n)) (int_v n) 1 1
   number_pushes n leads = record {
     by = λ pc st h out has lt room.
-        let i : Instr = LdcW (number_index p n) in
+        let i : Instr = LdcW (pos (number_index p n)) in
         let r : resolve files p i ≡ Some (op.PushInt n) = ap (constant p) leads in
         let e : row files main_class (here pc st h 0) ≡ on (here (pc + 3) (word.Int n ∷ st) h 0) = row_at pc st h 0 i (op.PushInt n) (omega arith) has.0 r ∙ goes_on pc (pc + 3) st (word.Int n ∷ st) h 0 (omega arith) in
         record {
@@ -179,10 +180,10 @@ module _ (numbers : List ℕ) (body : Tree) where
       goes_on pc next st (word.Reference (length h + 1) ∷ st') (h ++ x ∷ []) 0 (omega arith)
       ∙ ap (λ k. on (here next (word.Reference k ∷ st') (h ++ x ∷ []) 0)) (add-one (length h))
 
-  pub text_pushes : (us : List ℕ) → resolve files p (LdcW (string_index p us)) ≡ Some (op.PushText us) → Pushes (code p (text_tree us)) (string_v us) 1 1
+  pub text_pushes : (us : List ℕ) → resolve files p (LdcW (pos (string_index p us))) ≡ Some (op.PushText us) → Pushes (code p (text_tree us)) (string_v us) 1 1
   text_pushes us r = record {
     by = λ pc st h out has lt room.
-        let i : Instr = LdcW (string_index p us) in
+        let i : Instr = LdcW (pos (string_index p us)) in
         let w : Word = word.Reference (suc (length h)) in
         let e : row files main_class (here pc st h 0) ≡ on (here (pc + 3) (w ∷ st) (h ++ object.Text us ∷ []) 0) = row_at pc st h 0 i (op.PushText us) (omega arith) has.0 r ∙ makes_one pc (pc + 3) st st h (object.Text us) (omega arith) in
         record {
@@ -269,30 +270,30 @@ module _ (numbers : List ℕ) (body : Tree) where
 
   -- ---- the built-in methods of a concatenation
 
-  concat_row : (pc : ℕ) (st : List Word) (h : List HeapObject) (w u : Word) (x y : List ℕ) → object_in h w ≡ Some (object.Text x) → object_in h u ≡ Some (object.Text y) → instr_at instrs pc ≡ Some (Invokestatic 24) → pc < 65536 → length st + 1 ≤ 4 →
+  concat_row : (pc : ℕ) (st : List Word) (h : List HeapObject) (w u : Word) (x y : List ℕ) → object_in h w ≡ Some (object.Text x) → object_in h u ≡ Some (object.Text y) → instr_at instrs pc ≡ Some (Invokestatic (pos 24)) → pc < 65536 → length st + 1 ≤ 4 →
       row files main_class (here pc (u ∷ w ∷ st) h 0) ≡ on (here (pc + 3) (word.Reference (suc (length h)) ∷ st) (h ++ object.Text (x ++ y) ∷ []) 0)
   concat_row pc st h w u x y ew eu f lt le =
-      row_at pc (u ∷ w ∷ st) h 0 (Invokestatic 24) (op.BuiltIn built.Concat) lt f refl
+      row_at pc (u ∷ w ∷ st) h 0 (Invokestatic (pos 24)) (op.BuiltIn built.Concat) lt f refl
       ∙ ap (λ k. with_text k (λ a. with_text (object_in h u) (λ b. makes (rest h 0) (main_frame pc (u ∷ w ∷ st)) (pc + 3) st (object.Text (a ++ b))))) ew
       ∙ ap (λ k. with_text k (λ b. makes (rest h 0) (main_frame pc (u ∷ w ∷ st)) (pc + 3) st (object.Text (x ++ b)))) eu
       ∙ makes_one pc (pc + 3) (u ∷ w ∷ st) st h (object.Text (x ++ y)) le
 
-  box_row : (pc n : ℕ) (st : List Word) (h : List HeapObject) → instr_at instrs pc ≡ Some (Invokestatic 28) → pc < 65536 → length st + 1 ≤ 4 →
+  box_row : (pc n : ℕ) (st : List Word) (h : List HeapObject) → instr_at instrs pc ≡ Some (Invokestatic (pos 28)) → pc < 65536 → length st + 1 ≤ 4 →
       row files main_class (here pc (word.Int n ∷ st) h 0) ≡ on (here (pc + 3) (word.Reference (suc (length h)) ∷ st) (h ++ object.Integer n ∷ []) 0)
-  box_row pc n st h f lt le = row_at pc (word.Int n ∷ st) h 0 (Invokestatic 28) (op.BuiltIn built.BoxInt) lt f refl ∙ makes_one pc (pc + 3) (word.Int n ∷ st) st h (object.Integer n) le
+  box_row pc n st h f lt le = row_at pc (word.Int n ∷ st) h 0 (Invokestatic (pos 28)) (op.BuiltIn built.BoxInt) lt f refl ∙ makes_one pc (pc + 3) (word.Int n ∷ st) st h (object.Integer n) le
 
-  to_string_row : (pc n r : ℕ) (st : List Word) (h : List HeapObject) → object_at h (suc r) ≡ Some (object.Integer n) → instr_at instrs pc ≡ Some (Invokevirtual 32) → pc < 65536 → length st + 1 ≤ 4 →
+  to_string_row : (pc n r : ℕ) (st : List Word) (h : List HeapObject) → object_at h (suc r) ≡ Some (object.Integer n) → instr_at instrs pc ≡ Some (Invokevirtual (pos 32)) → pc < 65536 → length st + 1 ≤ 4 →
       row files main_class (here pc (word.Reference (suc r) ∷ st) h 0) ≡ on (here (pc + 3) (word.Reference (suc (length h)) ∷ st) (h ++ object.Text (number_text n) ∷ []) 0)
   to_string_row pc n r st h e f lt le =
-      row_at pc (word.Reference (suc r) ∷ st) h 0 (Invokevirtual 32) (op.BuiltIn built.ToString) lt f refl
+      row_at pc (word.Reference (suc r) ∷ st) h 0 (Invokevirtual (pos 32)) (op.BuiltIn built.ToString) lt f refl
       ∙ ap (λ k. with_integer k (λ m. makes (rest h 0) (main_frame pc (word.Reference (suc r) ∷ st)) (pc + 3) st (object.Text (number_text m)))) e
       ∙ makes_one pc (pc + 3) (word.Reference (suc r) ∷ st) st h (object.Text (number_text n)) le
 
   -- a string and a string
   pub concat_pushes : (a b : Tree) (x y : List ℕ) (d e i j m : ℕ) → type_of b ≡ erased.Text → d ≤ m → e + 1 ≤ m → Pushes (code p a) (string_v x) d i → Pushes (code p b) (string_v y) e j → Pushes (code p (joined_tree a b)) (string_v (x ++ y)) m (i + j + 1)
-  concat_pushes a b x y d e i j m ty ld le pa pb = subst (λ (t : erased_type.Erased). Pushes ((code p a ++ (code p b ++ [])) ++ (text_code t ++ Invokestatic 24 ∷ [])) (string_v (x ++ y)) m (i + j + 1)) (sym ty) (record {
+  concat_pushes a b x y d e i j m ty ld le pa pb = subst (λ (t : erased_type.Erased). Pushes ((code p a ++ (code p b ++ [])) ++ (text_code t ++ Invokestatic (pos 24) ∷ [])) (string_v (x ++ y)) m (i + j + 1)) (sym ty) (record {
     by = λ pc st h out has lt room.
-        let c : List Instr = Invokestatic 24 ∷ [] in
+        let c : List Instr = Invokestatic (pos 24) ∷ [] in
         let q = parts_at (code p a) (code p b) c pc has in
         let z = both_push (code p a) (code p b) (string_v x) (string_v y) d e i j pc st h out pa pb q.first q.second (omega (arith, q.size)) (omega arith) (omega arith) in
         let hs : List HeapObject = h ++ z.made in
@@ -313,9 +314,9 @@ module _ (numbers : List ℕ) (body : Tree) where
 
   -- a string and a number
   pub concat_int_pushes : (a b : Tree) (x : List ℕ) (y d e i j m : ℕ) → type_of b ≡ erased.Int → d ≤ m → e + 1 ≤ m → 2 ≤ m → Pushes (code p a) (string_v x) d i → Pushes (code p b) (int_v y) e j → Pushes (code p (joined_tree a b)) (string_v (x ++ number_text y)) m (i + j + 3)
-  concat_int_pushes a b x y d e i j m ty ld le lm pa pb = subst (λ (t : erased_type.Erased). Pushes ((code p a ++ (code p b ++ [])) ++ (text_code t ++ Invokestatic 24 ∷ [])) (string_v (x ++ number_text y)) m (i + j + 3)) (sym ty) (record {
+  concat_int_pushes a b x y d e i j m ty ld le lm pa pb = subst (λ (t : erased_type.Erased). Pushes ((code p a ++ (code p b ++ [])) ++ (text_code t ++ Invokestatic (pos 24) ∷ [])) (string_v (x ++ number_text y)) m (i + j + 3)) (sym ty) (record {
     by = λ pc st h out has lt room.
-        let c : List Instr = Invokestatic 28 ∷ Invokevirtual 32 ∷ Invokestatic 24 ∷ [] in
+        let c : List Instr = Invokestatic (pos 28) ∷ Invokevirtual (pos 32) ∷ Invokestatic (pos 24) ∷ [] in
         let q = parts_at (code p a) (code p b) c pc has in
         let z = both_push (code p a) (code p b) (string_v x) (int_v y) d e i j pc st h out pa pb q.first q.second (omega (arith, q.size)) (omega arith) (omega arith) in
         let h0 : List HeapObject = h ++ z.made in

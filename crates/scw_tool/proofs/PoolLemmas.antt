@@ -3,8 +3,8 @@ use Rattle.std.proofs.Common.{◌≡◌, ℕ, zero, suc, ◌+◌, ◌<◌, ◌�
 use Rattle.std.specs.Prelude.{slice_get, nat_eq, ◌||◌}
 use Rattle.std.specs.List.{list_any}
 use Rattle.std.proofs.lemmas.Bool.{cases_Bool, cond-true, cond-false, eqb-true, eq-eqb, false≢true}
-use Rattle.scw_classfile.specs.declared.class_file.PoolEntry.{PoolEntry}
-use Rattle.scw_classfile.specs.declared.class_file.PoolEntry.TheVariants as entry
+use Rattle.scw_classfile.specs.declared.pool_entry.PoolEntry.{PoolEntry}
+use Rattle.scw_classfile.specs.declared.pool_entry.PoolEntry.TheVariants as entry
 use Rattle.scw_tool.specs.Names.{at}
 use Rattle.scw_tool.specs.Source.{Product, Sum, count_of}
 use Rattle.scw_tool.specs.Constants.{fixed_pool}

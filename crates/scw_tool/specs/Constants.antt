@@ -1,7 +1,7 @@
 -- The constants that every generated class begins with, five at a time in the order of their indices, which count from 1: JVMS 4.4.
 use Rattle.std.specs.Prelude.{List, [], ◌∷◌, ◌++◌, codes}
-use Rattle.scw_classfile.specs.declared.class_file.PoolEntry.{PoolEntry}
-use Rattle.scw_classfile.specs.declared.class_file.PoolEntry.TheVariants.{Utf8, Class, Str, Methodref, NameAndType}
+use Rattle.scw_classfile.specs.declared.pool_entry.PoolEntry.{PoolEntry}
+use Rattle.scw_classfile.specs.declared.pool_entry.PoolEntry.TheVariants.{Utf8, Class, Str, Methodref, NameAndType}
 
 -- 1 to 5: the names of the class and of its parent
 abbrev pub class_constants : List PoolEntry → List PoolEntry

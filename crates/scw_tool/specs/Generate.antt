@@ -1,15 +1,16 @@
 -- The class file of a program: JVMS 4, and what its methods do by 6.5.
-use Rattle.std.specs.Prelude.{ℕ, ◌+◌, Bool, false, List, [], ◌∷◌, ◌++◌, map, nat_eq, if◌then◌else◌, codes}
+use Rattle.std.specs.Prelude.{ℕ, ◌+◌, pos, Bool, false, List, [], ◌∷◌, ◌++◌, map, nat_eq, if◌then◌else◌, codes}
 use Rattle.std.specs.List.{list_any}
-use Rattle.scw_classfile.specs.declared.class_file.PoolEntry.{PoolEntry}
-use Rattle.scw_classfile.specs.declared.class_file.PoolEntry.TheVariants as entry
+use Rattle.scw_classfile.specs.declared.access_flags.AccessFlags.{AccessFlags}
+use Rattle.scw_classfile.specs.declared.pool_entry.PoolEntry.{PoolEntry}
+use Rattle.scw_classfile.specs.declared.pool_entry.PoolEntry.TheVariants as entry
 use Rattle.scw_classfile.specs.declared.class_file.Attribute.{roll-Attribute}
 use Rattle.scw_classfile.specs.declared.class_file.AttrBody.TheVariants as body
 use Rattle.scw_classfile.specs.declared.class_file.Code.{roll-Code}
 use Rattle.scw_classfile.specs.declared.class_file.MemberInfo.{MemberInfo}
 use Rattle.scw_classfile.specs.declared.class_file.ClassFile.{ClassFile}
-use Rattle.scw_classfile.specs.declared.instr.Instr.{Instr}
-use Rattle.scw_classfile.specs.declared.instr.Instr.TheVariants.{Aload0, LdcW, Dup, Iadd, Imul, Areturn, Return, Invokevirtual, Invokespecial, Invokestatic, New}
+use Rattle.scw_tool.specs.declared.instr.Instr.{Instr}
+use Rattle.scw_tool.specs.declared.instr.Instr.TheVariants.{Aload0, LdcW, Dup, Iadd, Imul, Areturn, Return, Invokevirtual, Invokespecial, Invokestatic, New}
 use Rattle.scw_tool.specs.declared.tree.Arithmetic.TheVariants.{Add, Multiply}
 use Rattle.scw_tool.specs.declared.tree.Op.{Op}
 use Rattle.scw_tool.specs.declared.tree.Op.TheVariants.{Literal, Primitive, Static}
@@ -21,6 +22,7 @@ use Rattle.scw_tool.specs.declared.tree.Erased.{Erased}
 use Rattle.scw_tool.specs.declared.tree.Erased.TheVariants as erased
 use Rattle.scw_tool.specs.Tree.{Tree, Trees, node, none, more}
 use Rattle.scw_tool.specs.Constants.{fixed_pool}
+use Rattle.scw_tool.specs.Instr.{code_of}
 use Rattle.scw_tool.specs.Names.{at, utf8, is_text}
 use Rattle.scw_tool.specs.Source.{Product, Sum, main_tree}
 
@@ -87,20 +89,20 @@ second_type (more a (more b ts)) = type_of b
 
 -- the text of the value on top, for a concatenation
 abbrev pub text_code : Erased → List Instr
-text_code erased.Int = Invokestatic 28 ∷ Invokevirtual 32 ∷ []
+text_code erased.Int = Invokestatic (pos 28) ∷ Invokevirtual (pos 32) ∷ []
 text_code erased.Text = []
 text_code erased.Unit = []
 
 abbrev pub primitive_code : primitive.Primitive → Erased → List Instr
 primitive_code (Arithmetic Add) t = Iadd ∷ []
 primitive_code (Arithmetic Multiply) t = Imul ∷ []
-primitive_code Concatenate t = text_code t ++ Invokestatic 24 ∷ []
+primitive_code Concatenate t = text_code t ++ Invokestatic (pos 24) ∷ []
 
 abbrev pub op_code : List PoolEntry → Op → Erased → List Instr
-op_code p (Literal (Int n)) t = LdcW (number_index p n) ∷ []
-op_code p (Literal (Text us)) t = LdcW (string_index p us) ∷ []
+op_code p (Literal (Int n)) t = LdcW (pos (number_index p n)) ∷ []
+op_code p (Literal (Text us)) t = LdcW (pos (string_index p us)) ∷ []
 op_code p (Primitive o) t = primitive_code o t
-op_code p (Static Print) t = Invokestatic 20 ∷ Invokestatic 40 ∷ []
+op_code p (Static Print) t = Invokestatic (pos 20) ∷ Invokestatic (pos 40) ∷ []
 
 abbrev mutual
   pub code : List PoolEntry → Tree → List Instr
@@ -114,19 +116,22 @@ abbrev pub main_code : List PoolEntry → Tree → List Instr
 main_code p t = code p t ++ Return ∷ []
 
 abbrev pub init_code : List Instr
-init_code = Aload0 ∷ Invokespecial 9 ∷ Return ∷ []
+init_code = Aload0 ∷ Invokespecial (pos 9) ∷ Return ∷ []
 
 abbrev pub get_code : List Instr
-get_code = New 2 ∷ Dup ∷ Invokespecial 10 ∷ Areturn ∷ []
+get_code = New (pos 2) ∷ Dup ∷ Invokespecial (pos 10) ∷ Areturn ∷ []
 
 -- ---- the class
 
+abbrev pub flags_of : ℕ → AccessFlags
+flags_of n = record { 0 = n }
+
 abbrev pub method : ℕ → ℕ → ℕ → ℕ → ℕ → List Instr → MemberInfo
 method flags name descriptor stack locals instrs = record {
-  flags = flags;
+  flags = flags_of flags;
   name = name;
   descriptor = descriptor;
-  attributes = roll-Attribute (record { name = 5; body = body.Code (roll-Code (record { stack = stack; locals = locals; code = instrs; handlers = []; attributes = [] })) }) ∷ [];
+  attributes = roll-Attribute (record { name = 5; body = body.Code (roll-Code (record { stack = stack; locals = locals; code = map code_of instrs; handlers = []; attributes = [] })) }) ∷ [];
 }
 
 -- the deepest stack of `main`: the text so far, a sum, a product and a number
@@ -139,7 +144,7 @@ class_with numbers t = record {
   minor = 0;
   major = 52;
   pool = pool_with numbers;
-  flags = 0x21;
+  flags = flags_of 0x21;
   this = 2;
   parent = 4;
   interfaces = [];

@@ -9,6 +9,7 @@ pub mod Source
 pub mod Digits
 pub mod Flat
 pub mod Reading
+pub mod Instr
 pub mod Names
 pub mod NamedView
 pub mod Resolve

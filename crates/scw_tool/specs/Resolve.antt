@@ -1,17 +1,17 @@
 -- Classes, methods and instructions of the files, by number: JVMS 5.4.3 and 6.5.
-use Rattle.std.specs.Prelude.{ℕ, ◌+◌, ◌-◌, Bool, ◌&&◌, List, [], ◌∷◌, ◌++◌, Option, Some, None, slice_get, nat_lt, ◌==◌, if◌then◌else◌, codes, position}
+use Rattle.std.specs.Prelude.{ℕ, ℤ, pos, negsuc, ◌+◌, ◌-◌, Bool, ◌&&◌, List, [], ◌∷◌, ◌++◌, Option, Some, None, slice_get, nat_lt, ◌==◌, if◌then◌else◌, codes, position}
 use Rattle.std.specs.Option.{option_map}
-use Rattle.scw_classfile.specs.declared.class_file.PoolEntry.{PoolEntry}
-use Rattle.scw_classfile.specs.declared.class_file.PoolEntry.TheVariants as entry
+use Rattle.scw_classfile.specs.declared.pool_entry.PoolEntry.{PoolEntry}
+use Rattle.scw_classfile.specs.declared.pool_entry.PoolEntry.TheVariants as pool_entry
 use Rattle.scw_classfile.specs.declared.class_file.Attribute.{Attribute, out-Attribute}
 use Rattle.scw_classfile.specs.declared.class_file.AttrBody.{AttrBody}
 use Rattle.scw_classfile.specs.declared.class_file.AttrBody.TheVariants as body
 use Rattle.scw_classfile.specs.declared.class_file.Code.{Code, out-Code}
 use Rattle.scw_classfile.specs.declared.class_file.MemberInfo.{MemberInfo}
 use Rattle.scw_classfile.specs.declared.class_file.ClassFile.{ClassFile}
-use Rattle.scw_classfile.specs.declared.instr.Instr.{Instr}
-use Rattle.scw_classfile.specs.declared.instr.Instr.TheVariants as instr
-use Rattle.scw_classfile.specs.Instr.{size_of}
+use Rattle.scw_tool.specs.declared.instr.Instr.{Instr}
+use Rattle.scw_tool.specs.declared.instr.Instr.TheVariants as instr
+use Rattle.scw_tool.specs.Instr.{size_of, simple_code}
 use Rattle.scw_tool.specs.declared.tree.Arithmetic.TheVariants.{Add, Multiply}
 use Rattle.scw_tool.specs.declared.state.MethodNumber.{MethodNumber}
 use Rattle.scw_tool.specs.declared.operation.Operation.{Operation}
@@ -69,8 +69,8 @@ abbrev pub object_class : List ℕ
 object_class = codes "java/lang/Object"
 
 abbrev pub constant : List PoolEntry → Option PoolEntry → Option Operation
-constant p (Some (entry.Integer n)) = Some (PushInt n)
-constant p (Some (entry.Str n)) = option_map (λ us. PushText us) (utf8 (at p n))
+constant p (Some (pool_entry.Integer n)) = Some (PushInt n)
+constant p (Some (pool_entry.Str n)) = option_map (λ us. PushText us) (utf8 (at p n))
 constant p _ = None
 
 abbrev pub static_call : Named → Option Operation
@@ -91,18 +91,27 @@ special_call files n =
     else if same n.name (codes "<init>") && same n.descriptor (codes "()V") then option_map (λ m. CallSpecial m) (target files n.class n.name n.descriptor)
     else None
 
+-- the index of an entry that a number is, which counts from 1; a number below 0 is none
+abbrev pub pool_index : ℤ → ℕ
+pool_index (pos n) = n
+pool_index (negsuc n) = 0
+
+-- the entry that the number of an instruction leads to
+abbrev pub entry : List PoolEntry → ℤ → Option PoolEntry
+entry p n = at p (pool_index n)
+
 abbrev pub resolve : List ClassFile → List PoolEntry → Instr → Option Operation
 resolve files p instr.Aload0 = Some (Load 0)
-resolve files p (instr.LdcW n) = constant p (at p n)
+resolve files p (instr.LdcW n) = constant p (entry p n)
 resolve files p instr.Dup = Some Duplicate
 resolve files p instr.Iadd = Some (Arithmetic Add)
 resolve files p instr.Imul = Some (Arithmetic Multiply)
 resolve files p instr.Areturn = Some ReturnReference
 resolve files p instr.Return = Some Return
-resolve files p (instr.Invokevirtual n) = and_then (method_ref p (at p n)) virtual_call
-resolve files p (instr.Invokespecial n) = and_then (method_ref p (at p n)) (special_call files)
-resolve files p (instr.Invokestatic n) = and_then (method_ref p (at p n)) static_call
-resolve files p (instr.New n) = and_then (class_name p (at p n)) (λ c. option_map (λ k. NewInstance k) (class_number files c))
+resolve files p (instr.Invokevirtual n) = and_then (method_ref p (entry p n)) virtual_call
+resolve files p (instr.Invokespecial n) = and_then (method_ref p (entry p n)) (special_call files)
+resolve files p (instr.Invokestatic n) = and_then (method_ref p (entry p n)) static_call
+resolve files p (instr.New n) = and_then (class_name p (entry p n)) (λ c. option_map (λ k. NewInstance k) (class_number files c))
 
 -- the instruction that begins at a place
 abbrev pub instr_at : List Instr → ℕ → Option Instr
@@ -118,7 +127,7 @@ fetch_in files p code place =
     if nat_lt place 65536 then and_then (instr_at code place) (λ i. option_map (fetched (place + size_of i)) (resolve files p i)) else None
 
 abbrev pub fetch_method : List ClassFile → MethodNumber → ℕ → Option Fetched
-fetch_method files n place = and_then (slice_get files n.class) (λ k. and_then (code_in k n.method) (λ c. fetch_in files k.pool (out-Code c).code place))
+fetch_method files n place = and_then (slice_get files n.class) (λ k. and_then (code_in k n.method) (λ c. fetch_in files k.pool (simple_code (out-Code c).code) place))
 
 -- the launcher of the class with this name: it gets the object, makes an empty array of strings, calls `main` and returns
 abbrev pub launch : List ClassFile → List ℕ → ℕ → Option Fetched

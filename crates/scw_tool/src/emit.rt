@@ -4,9 +4,10 @@ ghost use Rattle.std.specs.Prelude.{◌≡◌, ◌<◌, ◌-◌, ◌^◌, ◌∷
 ghost use Rattle.scw_tool.specs.Generate as g;
 ghost use Rattle.scw_tool.specs.TreeOf.{tree_of, trees_view};
 
+use crate::instr::Instr;
 use crate::names::{is_text, utf8_at};
 use crate::tree::{Arithmetic, Erased, Literal, Op, Primitive, RunMethod, Tree};
-use scw_classfile::{Instr, PoolEntry};
+use scw_classfile::PoolEntry;
 use scw_text::Units;
 use std::alloc::{AllocError, Global};
 
@@ -132,8 +133,11 @@ fn emit_op(
     ensures { OnOk result (out.new.items ≡ out.old.items ++ g.op_code pool.now op.now second) }
 {
     match op {
-        Op::Literal(Literal::Int(n)) => put(out, Instr::LdcW(number_index(pool, *n))),
-        Op::Literal(Literal::Text(text)) => put(out, Instr::LdcW(string_index(pool, text))),
+        Op::Literal(Literal::Int(n)) => put(out, Instr::LdcW(i32::from(number_index(pool, *n)))),
+        Op::Literal(Literal::Text(text)) => put(
+            out,
+            Instr::LdcW(i32::from(string_index(pool, text))),
+        ),
         Op::Primitive(primitive) => emit_primitive(out, *primitive, second),
         Op::Static(RunMethod::Print) => {
             put(out, Instr::Invokestatic(20))?;

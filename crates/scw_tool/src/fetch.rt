@@ -2,11 +2,13 @@
 
 ghost use Rattle.std.specs.Prelude.{◌≡◌, ◌++◌, ◌&&◌, IfOk, codes};
 ghost use Rattle.std.specs.Option.{option_map, option_copied};
-ghost use Rattle.scw_tool.specs.Names.{at, class_name, method_ref, and_then, same};
+ghost use Rattle.scw_tool.specs.Instr.{simple_code};
+ghost use Rattle.scw_tool.specs.Names.{class_name, method_ref, and_then, same};
 ghost use Rattle.scw_tool.specs.NamedView.{named_view};
 ghost use Rattle.scw_tool.specs.Resolve as r;
 ghost use Rattle.scw_tool.specs.Row.{fetch};
 
+use crate::instr::{Instr, simple_of};
 use crate::method_ref::{is_named, method_at};
 use crate::names::{Named, class_name_at, entry_at, same, utf8_at};
 use crate::operation::{BuiltIn, Fetched, Operation};
@@ -14,14 +16,21 @@ use crate::resolve::{class_number, code_in, target};
 use crate::state::{Body, MethodNumber};
 use crate::tree::Arithmetic;
 use crate::units::{copied, joined, units_of};
-use scw_classfile::{ClassFile, Instr, PoolEntry};
+use scw_classfile::{ClassFile, PoolEntry};
 use scw_text::Units;
 use std::alloc::{AllocError, Global};
 
-fn constant(alloc: Global, pool: &[PoolEntry], n: u16) -> Result<Option<Operation>, AllocError>
-    ensures { IfOk result (λ o. o ≡ r.constant pool.now (at pool.now n)) }
+// A number below 0 is no index, and 0 is no entry's.
+fn pool_index(n: i32) -> usize
+    ensures { result ≡ r.pool_index n }
 {
-    match entry_at(pool, n) {
+    if n < 0 { 0 } else { n as usize }
+}
+
+fn constant(alloc: Global, pool: &[PoolEntry], n: i32) -> Result<Option<Operation>, AllocError>
+    ensures { IfOk result (λ o. o ≡ r.constant pool.now (r.entry pool.now n)) }
+{
+    match entry_at(pool, pool_index(n)) {
         Some(PoolEntry::Integer(n)) => Ok(Some(Operation::PushInt(*n))),
         Some(PoolEntry::Str(k)) => match utf8_at(pool, *k) {
             Some(units) => Ok(Some(Operation::PushText(copied(alloc, units)?))),
@@ -82,10 +91,10 @@ fn special_call(files: &[ClassFile], n: Named<'_>) -> Option<Operation>
     }
 }
 
-fn new_instance(files: &[ClassFile], pool: &[PoolEntry], n: u16) -> Option<Operation>
-    ensures { result ≡ and_then (class_name pool.now (at pool.now n)) (λ c. option_map (λ k. Operation.NewInstance k) (r.class_number files.now c)) }
+fn new_instance(files: &[ClassFile], pool: &[PoolEntry], n: i32) -> Option<Operation>
+    ensures { result ≡ and_then (class_name pool.now (r.entry pool.now n)) (λ c. option_map (λ k. Operation.NewInstance k) (r.class_number files.now c)) }
 {
-    let class = class_name_at(pool, n)?;
+    let class = class_name_at(pool, pool_index(n))?;
     let number = class_number(files, class)?;
     Some(Operation::NewInstance(number))
 }
@@ -106,15 +115,15 @@ fn resolve(
         Instr::Imul => Some(Operation::Arithmetic(Arithmetic::Multiply)),
         Instr::Areturn => Some(Operation::ReturnReference),
         Instr::Return => Some(Operation::Return),
-        Instr::Invokevirtual(n) => match method_at(pool, n) {
+        Instr::Invokevirtual(n) => match method_at(pool, pool_index(n)) {
             Some(named) => virtual_call(named),
             None => None,
         },
-        Instr::Invokespecial(n) => match method_at(pool, n) {
+        Instr::Invokespecial(n) => match method_at(pool, pool_index(n)) {
             Some(named) => special_call(files, named),
             None => None,
         },
-        Instr::Invokestatic(n) => match method_at(pool, n) {
+        Instr::Invokestatic(n) => match method_at(pool, pool_index(n)) {
             Some(named) => static_call(named),
             None => None,
         },
@@ -122,13 +131,14 @@ fn resolve(
     })
 }
 
-fn instr_at(code: &[Instr], place: u32) -> Option<Instr>
-    ensures { result ≡ r.instr_at code.now place }
+fn instr_at(code: &[scw_code::Instr], place: u32) -> Option<Instr>
+    ensures { result ≡ r.instr_at (simple_code code.now) place }
 {
     let mut left = place;
-    for instr in code {
+    for any in code {
+        let instr = simple_of(any)?;
         if left == 0 {
-            return Some(*instr);
+            return Some(instr);
         }
         let size = u32::from(instr.size());
         if left < size {
@@ -143,10 +153,10 @@ fn fetch_in(
     alloc: Global,
     files: &[ClassFile],
     pool: &[PoolEntry],
-    code: &[Instr],
+    code: &[scw_code::Instr],
     place: u32,
 ) -> Result<Option<Fetched>, AllocError>
-    ensures { IfOk result (λ x. x ≡ r.fetch_in files.now pool.now code.now place) }
+    ensures { IfOk result (λ x. x ≡ r.fetch_in files.now pool.now (simple_code code.now) place) }
 {
     if place >= 65_536 {
         return Ok(None);

@@ -7,11 +7,12 @@ ghost use Rattle.scw_tool.specs.TreeOf.{tree_of};
 
 use crate::constants::fixed;
 use crate::emit::{emit, put};
+use crate::instr::{Instr, code_of_all};
 use crate::reader::{Product, Sum};
 use crate::sum_tree::main_tree;
 use crate::tree::Tree;
 use scw_classfile::{
-    AttrBody, Attribute, ClassFile, Code, Instr, Instrs, MemberInfo, Pool, PoolEntry,
+    AccessFlags, AttrBody, Attribute, ClassFile, Code, MemberInfo, Pool, PoolEntry,
 };
 use sqlite_items::Items;
 use std::alloc::{AllocError, Global};
@@ -61,9 +62,9 @@ fn method(
     descriptor: u16,
     stack: u16,
     locals: u16,
-    code: Instrs,
+    instrs: &[Instr],
 ) -> Result<MemberInfo, AllocError>
-    ensures { IfOk result (λ m. m ≡ g.method flags name descriptor stack locals code) }
+    ensures { IfOk result (λ m. m ≡ g.method flags name descriptor stack locals instrs.now) }
 {
     let mut attributes = Items::new(alloc);
     attributes.push(Attribute {
@@ -71,48 +72,48 @@ fn method(
         body: AttrBody::Code(Code {
             stack,
             locals,
-            code,
+            code: code_of_all(alloc, instrs)?,
             handlers: Items::new(alloc),
             attributes: Items::new(alloc),
         }),
     })?;
     Ok(MemberInfo {
-        flags,
+        flags: AccessFlags(flags),
         name,
         descriptor,
         attributes,
     })
 }
 
-fn init_code(alloc: Global) -> Result<Instrs, AllocError>
-    ensures { IfOk result (λ code. code ≡ g.init_code) }
+fn init_code(alloc: Global) -> Result<Vec<Instr>, AllocError>
+    ensures { IfOk result (λ code. code.items ≡ g.init_code) }
 {
     let mut code = Vec::new(alloc);
     put(&mut code, Instr::Aload0)?;
     put(&mut code, Instr::Invokespecial(9))?;
     put(&mut code, Instr::Return)?;
-    Ok(Items::from_vec(code))
+    Ok(code)
 }
 
-fn get_code(alloc: Global) -> Result<Instrs, AllocError>
-    ensures { IfOk result (λ code. code ≡ g.get_code) }
+fn get_code(alloc: Global) -> Result<Vec<Instr>, AllocError>
+    ensures { IfOk result (λ code. code.items ≡ g.get_code) }
 {
     let mut code = Vec::new(alloc);
     put(&mut code, Instr::New(2))?;
     put(&mut code, Instr::Dup)?;
     put(&mut code, Instr::Invokespecial(10))?;
     put(&mut code, Instr::Areturn)?;
-    Ok(Items::from_vec(code))
+    Ok(code)
 }
 
-fn main_code(alloc: Global, pool: &[PoolEntry], tree: &Tree) -> Result<Instrs, AllocError>
+fn main_code(alloc: Global, pool: &[PoolEntry], tree: &Tree) -> Result<Vec<Instr>, AllocError>
     requires { length pool.now < 2 ^ 16 - 1 }
-    ensures { IfOk result (λ code. code ≡ g.main_code pool.now (tree_of tree.now)) }
+    ensures { IfOk result (λ code. code.items ≡ g.main_code pool.now (tree_of tree.now)) }
 {
     let mut code = Vec::new(alloc);
     emit(&mut code, pool, tree)?;
     put(&mut code, Instr::Return)?;
-    Ok(Items::from_vec(code))
+    Ok(code)
 }
 
 fn class_with(alloc: Global, numbers: &[u32], tree: &Tree) -> Result<ClassFile, AllocError>
@@ -122,14 +123,14 @@ fn class_with(alloc: Global, numbers: &[u32], tree: &Tree) -> Result<ClassFile, 
     let pool = pool_with(alloc, numbers)?;
     let main = main_code(alloc, pool.as_slice(), tree)?;
     let mut methods = Items::new(alloc);
-    methods.push(method(alloc, 1, 6, 7, 1, 1, init_code(alloc)?)?)?;
-    methods.push(method(alloc, 9, 11, 12, 2, 0, get_code(alloc)?)?)?;
-    methods.push(method(alloc, 1, 13, 14, 4, 2, main)?)?;
+    methods.push(method(alloc, 1, 6, 7, 1, 1, &init_code(alloc)?)?)?;
+    methods.push(method(alloc, 9, 11, 12, 2, 0, &get_code(alloc)?)?)?;
+    methods.push(method(alloc, 1, 13, 14, 4, 2, &main)?)?;
     Ok(ClassFile {
         minor: 0,
         major: 52,
         pool,
-        flags: 0x21,
+        flags: AccessFlags(0x21),
         this: 2,
         parent: 4,
         interfaces: Items::new(alloc),

@@ -8,6 +8,7 @@ mod emit;
 mod error_line;
 mod fetch;
 mod generate;
+mod instr;
 mod method_ref;
 mod names;
 mod operation;

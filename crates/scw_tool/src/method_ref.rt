@@ -9,13 +9,13 @@ use crate::names::{Named, class_name_at, entry_at, same, utf8_at};
 use scw_classfile::PoolEntry;
 
 /// The method of an index.
-pub fn method_at(pool: &[PoolEntry], n: u16) -> Option<Named<'_>>
+pub fn method_at(pool: &[PoolEntry], n: usize) -> Option<Named<'_>>
     ensures { option_map named_view result ≡ method_ref pool.now (at pool.now n) }
 {
     match entry_at(pool, n) {
         Some(PoolEntry::Methodref(c, k)) => {
-            let class = class_name_at(pool, *c)?;
-            match entry_at(pool, *k) {
+            let class = class_name_at(pool, usize::from(*c))?;
+            match entry_at(pool, usize::from(*k)) {
                 Some(PoolEntry::NameAndType(x, d)) => {
                     let name = utf8_at(pool, *x)?;
                     let descriptor = utf8_at(pool, *d)?;

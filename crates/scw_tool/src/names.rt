@@ -29,28 +29,24 @@ pub fn is_text(found: Option<&Units>, text: &Units) -> bool
 }
 
 /// The entry of an index.
-pub fn entry_at(pool: &[PoolEntry], n: u16) -> Option<&PoolEntry>
+pub fn entry_at(pool: &[PoolEntry], n: usize) -> Option<&PoolEntry>
     ensures { option_copied result ≡ at pool.now n }
 {
-    if n == 0 {
-        None
-    } else {
-        pool.get(n as usize - 1)
-    }
+    if n == 0 { None } else { pool.get(n - 1) }
 }
 
 /// The text of an index.
 pub fn utf8_at(pool: &[PoolEntry], n: u16) -> Option<&Units>
     ensures { option_copied result ≡ utf8 (at pool.now n) }
 {
-    match entry_at(pool, n) {
+    match entry_at(pool, usize::from(n)) {
         Some(PoolEntry::Utf8(units)) => Some(units),
         _ => None,
     }
 }
 
 /// The name of the class of an index.
-pub fn class_name_at(pool: &[PoolEntry], n: u16) -> Option<&Units>
+pub fn class_name_at(pool: &[PoolEntry], n: usize) -> Option<&Units>
     ensures { option_copied result ≡ class_name pool.now (at pool.now n) }
 {
     match entry_at(pool, n) {

@@ -2,6 +2,7 @@
 
 ghost use Rattle.std.specs.Prelude.{◌≡◌, ◌∷◌, [], IfOk, IsTrue};
 ghost use Rattle.scw_classfile.specs.Format.{class};
+ghost use Rattle.scw_classfile.specs.ReadClass.{IsWritable};
 ghost use Rattle.scw_tool.specs.Generate.{class_of, main_class};
 ghost use Rattle.scw_tool.specs.Job.{written};
 ghost use Rattle.scw_tool.specs.Source.{fits_sum};
@@ -39,7 +40,7 @@ pub struct Finished {
 
 // A class file's own bytes, read.
 fn read_back(alloc: Global, bytes: &[u8], sum: &Sum) -> Result<ClassFile, NoMemory>
-    requires fits { IsTrue (class.fits (class_of sum.now)) }
+    requires fits { IsWritable (class_of sum.now) }
     requires spelled { bytes.now ≡ class.spell (class_of sum.now) }
     ensures { IfOk result (λ c. c ≡ class_of sum.now) }
 {

@@ -1,25 +1,21 @@
 //! Classes, methods and instructions of the files, by number (JVMS 5.4.3).
 
-ghost use Rattle.std.specs.Prelude.{◌≡◌, ◌++◌, IfOk, Option, codes, position};
-ghost use Rattle.std.specs.Option.{option_map, option_copied};
-ghost use Rattle.scw_tool.specs.Names.{at, class_name, method_ref};
-ghost use Rattle.scw_tool.specs.NamedView.{named_view};
+ghost use Rattle.std.specs.Prelude.{◌≡◌, position};
+ghost use Rattle.std.specs.Option.{option_copied};
 ghost use Rattle.scw_tool.specs.Resolve as r;
 
-use crate::method_ref::{is_named, method_at};
-use crate::names::{Named, class_name_at, entry_at, is_text, utf8_at};
-use crate::operation::{BuiltIn, Operation};
+use crate::names::{class_name_at, is_text, utf8_at};
 use crate::state::MethodNumber;
-use crate::tree::Arithmetic;
-use scw_classfile::{AttrBody, Attribute, ClassFile, Code, Instr, MemberInfo, PoolEntry};
+use scw_classfile::{AttrBody, Attribute, ClassFile, Code, MemberInfo, PoolEntry};
 use scw_text::Units;
-use sqlite_items::Items;
-use std::alloc::{AllocError, Global};
 
 fn is_class(name: &Units, class: &ClassFile) -> bool
     ensures { result ≡ r.is_class name.now class.now }
 {
-    is_text(class_name_at(class.pool.as_slice(), class.this), name)
+    is_text(
+        class_name_at(class.pool.as_slice(), usize::from(class.this)),
+        name,
+    )
 }
 
 /// The number of the first class of a name.

@@ -6,7 +6,7 @@ use Rattle.scw_tool.proofs.pipeline.read_back.Goals as goal
 
 pub unreachable-requires : goal.unreachable-requires
 unreachable-requires c =
-    subst (λ f. IsOkOrNoMemory (Err f) (class_of c.args.sum.now)) c.in-Err-Bad.field-0-is (c.in-Err-Bad.ensures.again (class_of c.args.sum.now) c.requires.fits c.requires.spelled)
+    subst (λ f. IsOkOrNoMemory (Err f) (class_of c.args.sum.now)) c.in-Err-Bad.field-0-is (c.in-Err-Bad.ensures.again (class_of c.args.sum.now) (c.requires.fits, c.requires.spelled))
 
 pub returns-in-Ok : goal.returns-in-Ok
-returns-in-Ok c = c.in-Ok.ensures.again (class_of c.args.sum.now) c.requires.fits c.requires.spelled
+returns-in-Ok c = c.in-Ok.ensures.again (class_of c.args.sum.now) (c.requires.fits, c.requires.spelled)
