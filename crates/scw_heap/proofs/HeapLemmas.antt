@@ -1,5 +1,5 @@
 -- What the definition of a heap says of numbers and words: for callers.
-use Rattle.std.proofs.Common.{◌≡◌, ℕ, ◌+◌, ◌-◌, ◌<◌, ◌≤◌, suc, zero, List, [], ◌∷◌, ◌++◌, Some, length, get_or, set, take, sym, ◌∙◌, ap, refl, inl, inr, arith}
+use Rattle.std.proofs.Common.{◌≡◌, ℕ, ◌+◌, ◌-◌, ◌<◌, ◌≤◌, suc, zero, Bool, true, List, [], ◌∷◌, ◌++◌, Some, None, Option, is_some, IsSome, IsTrue, ◌↔◌, length, get_or, set, take, sym, ◌∙◌, ap, refl, inl, inr, arith}
 use Rattle.std.proofs.lemmas.Bool.{cases_eq}
 use Rattle.std.proofs.lemmas.List.{length-set, get_or-set_same, get_or-set_other}
 use Rattle.scw_heap.specs.declared.kind.Kind.{Kind}
@@ -155,4 +155,68 @@ length-words_at-with_word objects n m i v =
           (ap length (words_at-with_word_same objects n i v) ∙
           (length-set (words_at objects n) i v ∙ ap (λ x. length (words_at objects x)) (sym e)))
       | inr e ↦ ap (λ x. length (words_in x)) (object_at-with_word_other objects n m i v e)
+    ]
+
+-- a test of an object is true where it is there
+pub is_some-there : (x : Option Entity) (b : Bool) → b ≡ is_some x → IsTrue b ↔ IsSome x
+is_some-there None b e = (λ t. absurd (cc), λ s. absurd (cc))
+is_some-there (Some o) b e = (λ t. refl, λ s. e)
+
+-- a write makes no object and loses none
+pub is_some-with_word : (objects : List Entity) (n m i v : ℕ) → is_some (object_at (with_word objects n i v) m) ≡ is_some (object_at objects m)
+is_some-with_word [] n m i v = refl
+is_some-with_word (p ∷ os) n m i v =
+    elim (cases_eq n 1) [
+      | inl e ↦
+          ap (λ xs. is_some (object_at xs m)) (with_word-first p os n i v e) ∙
+          elim (cases_eq m 1) [
+            | inl q ↦
+                ap is_some (object_at-first (with_word_in p i v) os m q) ∙ sym (ap is_some (object_at-first p os m q))
+            | inr q ↦
+                ap is_some (object_at-next (with_word_in p i v) os m q) ∙
+                (ap (λ x. is_some (object_at os (m - x))) (size_of-with_word_in p i v) ∙
+                sym (ap is_some (object_at-next p os m q)))
+          ]
+      | inr e ↦
+          ap (λ xs. is_some (object_at xs m)) (with_word-next p os n i v e) ∙
+          elim (cases_eq m 1) [
+            | inl q ↦
+                ap is_some (object_at-first p (with_word os (n - size_of p) i v) m q) ∙
+                sym (ap is_some (object_at-first p os m q))
+            | inr q ↦
+                ap is_some (object_at-next p (with_word os (n - size_of p) i v) m q) ∙
+                (is_some-with_word os (n - size_of p) (m - size_of p) i v ∙
+                sym (ap is_some (object_at-next p os m q)))
+          ]
+    ]
+
+-- the number of an object is that of one while others are made
+pub is_some-append : (os ts : List Entity) (n : ℕ) → is_some (object_at os n) ≡ true → is_some (object_at (os ++ ts) n) ≡ true
+is_some-append [] ts n h = absurd (cc)
+is_some-append (p ∷ os) ts n h =
+    elim (cases_eq n 1) [
+      | inl e ↦ ap is_some (object_at-first p (os ++ ts) n e)
+      | inr e ↦
+          ap is_some (object_at-next p (os ++ ts) n e) ∙
+          is_some-append os ts (n - size_of p) (sym (ap is_some (object_at-next p os n e)) ∙ h)
+    ]
+
+-- an object that is there is there after a write, and while others are made
+pub IsSome-with_word : (objects : List Entity) (n m i v : ℕ) → IsSome (object_at objects m) → IsSome (object_at (with_word objects n i v) m)
+IsSome-with_word objects n m i v h =
+    (is_some-there (object_at (with_word objects n i v) m) true (sym (is_some-with_word objects n m i v ∙ (is_some-there (object_at objects m) _ refl).1 h))).0 refl
+
+pub IsSome-append : (os ts : List Entity) (n : ℕ) → IsSome (object_at os n) → IsSome (object_at (os ++ ts) n)
+IsSome-append os ts n h =
+    (is_some-there (object_at (os ++ ts) n) true (sym (is_some-append os ts n ((is_some-there (object_at os n) _ refl).1 h)))).0 refl
+
+-- a fresh object is at its own number alone
+pub object_at-made_other : (objects : List Entity) (k : Kind) (n m : ℕ) → (m ≡ 1 + used objects → ⊥) → object_at (objects ++ zeroed k n ∷ []) m ≡ object_at objects m
+object_at-made_other [] k n m ne = object_at-next (zeroed k n) [] m (λ e. ne (omega arith))
+object_at-made_other (p ∷ os) k n m ne =
+    elim (cases_eq m 1) [
+      | inl e ↦ object_at-first p (os ++ zeroed k n ∷ []) m e ∙ sym (object_at-first p os m e)
+      | inr e ↦
+          object_at-next p (os ++ zeroed k n ∷ []) m e ∙
+          (object_at-made_other os k n (m - size_of p) (λ q. ne (omega arith)) ∙ sym (object_at-next p os m e))
     ]

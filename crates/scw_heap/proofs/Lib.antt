@@ -4,3 +4,4 @@ pub mod LayoutLemmas
 pub mod FoundLemmas
 pub mod ChangeLemmas
 pub mod HeapLemmas
+pub mod StartLemmas

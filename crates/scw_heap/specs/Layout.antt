@@ -1,6 +1,6 @@
 -- How objects lie in an arena of 64-bit words, two a unit: the first word of an object has its kind, the second the
 -- number of its words; then come these, packed, the first in the lowest bits.
-use Rattle.std.specs.Prelude.{◌≡◌, ℕ, ◌+◌, ◌-◌, ◌*◌, ◌/◌, ◌%◌, ◌^◌, ◌<◌, ◌≤◌, suc, zero, List, [], ◌∷◌, length, get_or, drop, map}
+use Rattle.std.specs.Prelude.{◌≡◌, ℕ, ◌+◌, ◌-◌, ◌*◌, ◌/◌, ◌%◌, ◌^◌, ◌<◌, ◌≤◌, suc, zero, Bool, true, false, List, [], ◌∷◌, ◌++◌, length, get_or, drop, replicate, map}
 use Rattle.std.specs.List.{range_with_len}
 use Rattle.scw_heap.specs.declared.kind.Kind.{Kind}
 use Rattle.scw_heap.specs.declared.kind.Kind.TheVariants.{Object, Text, Booleans, Chars, Ints, Longs, Refs}
@@ -87,3 +87,13 @@ pub record IsSound (ws : List ℕ) (units capacity : ℕ) : Type 0 where
   pub within : length ws ≤ 2 * units
   pub reserved : 2 * units ≤ capacity
   pub small : units < 2 ^ 32
+
+-- a flag for each unit of the objects: whether one begins there
+abbrev pub starts_of : List Entity → List Bool
+starts_of [] = []
+starts_of (o ∷ os) = true ∷ (replicate (size_of o - 1) false ++ starts_of os)
+
+-- what always holds of the flags: they are those of the objects, and have room for the units
+pub record IsMarked (objects : List Entity) (starts : List Bool) (units capacity : ℕ) : Type 0 where
+  pub flags : starts ≡ starts_of objects
+  pub reserved : units ≤ capacity

@@ -1,6 +1,6 @@
 //! The heap itself.
 
-ghost use Rattle.std.specs.Prelude.{◌≡◌, ◌+◌, ◌-◌, ◌*◌, ◌^◌, ◌<◌, ◌≤◌, [], ◌∷◌, ◌++◌, ◌↔◌, length, slice_index, replicate, IfOk, OnOk, OnErr, IsErr, IfSome, IsSome};
+ghost use Rattle.std.specs.Prelude.{◌≡◌, ◌+◌, ◌-◌, ◌*◌, ◌^◌, ◌<◌, ◌≤◌, [], ◌∷◌, ◌++◌, ◌↔◌, true, false, length, slice_index, replicate, is_some, IfOk, OnOk, OnErr, IsErr, IfSome, IsSome, IsTrue};
 ghost use Rattle.std.specs.Vec.{vec_capacity, vec_len};
 ghost use Rattle.scw_heap.specs.Heap.{limit_of, object_at, units_of, used, with_word, words_at, zeroed};
 ghost use Rattle.scw_heap.specs.Layout.{code_of};
@@ -21,19 +21,21 @@ pub struct Full;
 #[derive(Drop)]
 pub struct Heap {
     words: Vec<u64>,
+    /// A flag for each unit in use: whether an object begins there.
+    starts: Vec<bool>,
     units: u32,
 }
 
 impl Model for Heap {
     ghost use Rattle.std.specs.Vec.{vec_capacity};
     ghost use Rattle.scw_heap.specs.Heap.{Content};
-    ghost use Rattle.scw_heap.specs.Layout.{IsSound, objects_of};
+    ghost use Rattle.scw_heap.specs.Layout.{IsMarked, IsSound, objects_of};
 
     ghost Value = { Content };
 
     ghost view = { λ h. record { objects = objects_of h.words.items; units = h.units } };
 
-    ghost invariant = { λ h. IsSound h.words.items h.units (vec_capacity h.words) };
+    ghost invariant = { λ h. IsSound h.words.items h.units (vec_capacity h.words) × IsMarked (objects_of h.words.items) h.starts.items h.units (vec_capacity h.starts) };
 }
 
 impl Heap {
@@ -46,7 +48,12 @@ impl Heap {
         ensures { IfOk result (λ heap. heap ≡ record { objects = []; units = units }) }
     {
         let words = Vec::with_capacity(alloc, 2 * units as usize)?;
-        Ok(Heap { words, units })
+        let starts = Vec::with_capacity(alloc, units as usize)?;
+        Ok(Heap {
+            words,
+            starts,
+            units,
+        })
     }
 
     /// The units in use.
@@ -55,6 +62,21 @@ impl Heap {
         ensures within { result ≤ self.now.units }
     {
         (self.words.len() / 2) as u32
+    }
+
+    /// Whether the heap has an object with the number.
+    pub fn has(&self, number: u64) -> bool
+        ensures value { result ≡ is_some (object_at self.now.objects number) }
+        ensures there { IsTrue result ↔ IsSome (object_at self.now.objects number) }
+    {
+        0 < number && number <= self.starts.len() as u64 && self.starts[number as usize - 1]
+    }
+
+    /// The units that are reserved.
+    pub fn units(&self) -> u32
+        ensures { result ≡ self.now.units }
+    {
+        self.units
     }
 
     /// Makes an object of the kind that has so many fields, elements or code units, all of them zero.
@@ -74,13 +96,15 @@ impl Heap {
             return Err(Full);
         }
         append(&mut self.words, kind, fields);
+        mark(&mut self.starts, units_of(kind, fields));
         Ok(Ref(1 + used))
     }
 
     /// The word at `i`: a field, an element or a code unit.
     pub fn get(&self, r: Ref, i: u32) -> Word
         requires { i < length (words_at self.now.objects r.0) }
-        ensures { result ≡ slice_index (words_at self.now.objects r.0) i }
+        ensures value { result ≡ slice_index (words_at self.now.objects r.0) i }
+        ensures within { IfSome (object_at self.now.objects r.0) (λ object. result < limit_of object.kind) }
     {
         let words = self.words.as_slice();
         let cell = Cell::locate(words, r, i);
@@ -126,4 +150,16 @@ fn append(words: &mut Vec<u64>, kind: Kind, fields: u32)
     words.push(code_of(kind)).unwrap();
     words.push(fields as u64).unwrap();
     words.resize(end, 0).unwrap();
+}
+
+/// Puts the flags of a fresh object of so many units behind the others. The room is reserved, so that no memory is taken.
+fn mark(starts: &mut Vec<bool>, units: u64)
+    requires some { 0 < units }
+    requires within { vec_len starts.old + units ≤ vec_capacity starts.old }
+    ensures items { starts.new.items ≡ starts.old.items ++ (true ∷ replicate (units - 1) false) }
+    ensures capacity { vec_capacity starts.old ≤ vec_capacity starts.new }
+{
+    let end = starts.len() + units as usize;
+    starts.push(true).unwrap();
+    starts.resize(end, false).unwrap();
 }

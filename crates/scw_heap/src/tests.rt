@@ -1,9 +1,9 @@
-//! Sizes and limits that were worked out by hand, and one heap with an object of each kind.
+//! Sizes and limits that were worked out by hand, one heap with an object of each kind, and numbers that are those of objects or not.
 
 ghost use Rattle.std.specs.Prelude.{◌<◌};
 ghost use Rattle.scw_heap.specs.Heap.{limit_of};
 
-use crate::{Full, Heap, Kind, units_of};
+use crate::{Full, Heap, Kind, Ref, units_of};
 use std::test::Fail;
 
 #[test]
@@ -80,5 +80,38 @@ fn an_object_is_what_it_was_made_as(rt: HostRuntime) -> Result<(), Fail> {
         assert_eq!(rt; heap.length(r), 2);
     }
     assert_eq!(rt; heap.used(), 2);
+    Ok(())
+}
+
+/// The kind of the object with the number, if there is one.
+fn kind_at(heap: &Heap, number: u64) -> Option<Kind> {
+    if heap.has(number) {
+        Some(heap.kind(Ref(number)))
+    } else {
+        None
+    }
+}
+
+#[test]
+fn a_number_is_that_of_an_object_where_one_begins(rt: HostRuntime) -> Result<(), Fail> {
+    let mut heap = Heap::new(rt.alloc(), 5)?;
+    assert!(rt; heap.make(Kind::Longs, 4).is_ok());
+    assert!(rt; heap.make(Kind::Text, 0).is_ok());
+    for (number, want, shows) in [
+        (0, None, "null is no object"),
+        (
+            1,
+            Some(Kind::Longs),
+            "the first object begins at the first unit",
+        ),
+        (2, None, "its first words"),
+        (3, None, "its last words"),
+        (4, Some(Kind::Text), "the second object begins behind it"),
+        (5, None, "a unit that is left"),
+        (6, None, "beyond the units"),
+        (u64::MAX, None, "the greatest number"),
+    ] {
+        assert_eq!(rt; kind_at(&heap, number), want, "{shows}");
+    }
     Ok(())
 }
