@@ -1,0 +1,4 @@
+pub mod UnwindLemmas
+pub mod TextLemmas
+pub mod BoxLemmas
+pub mod StringLemmas

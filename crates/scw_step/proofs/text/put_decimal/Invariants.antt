@@ -1,0 +1,11 @@
+use Rattle.std.proofs.Common.{◌≡◌, ◌+◌, length, drop}
+use Rattle.scw_step.specs.TextStep as step
+use Rattle.scw_step.specs.TextStep.{text_in}
+use Rattle.scw_step.proofs.text.put_decimal.Given as goal
+
+abbrev pub invariant-loop-i : goal.invariant-loop-i
+invariant-loop-i l = record {
+  place : l.place ≡ l.at + l.i;
+  units : step.putting l.r l.place (drop l.i l.number) l.heap ≡ step.putting l.r l.at l.number l.initial.heap;
+  room : length (text_in l.r l.heap) ≡ length (text_in l.r l.initial.heap);
+}

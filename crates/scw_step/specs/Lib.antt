@@ -1,0 +1,13 @@
+pub mod StateStep
+pub mod TypeStep
+pub mod HeapStep
+pub mod TextStep
+pub mod BoxStep
+pub mod ObjectStep
+pub mod StringStep
+pub mod ThrowableStep
+pub mod BuiltInStep
+pub mod CallStep
+pub mod UnwindStep
+pub mod RaiseStep
+pub mod Step
