@@ -1,0 +1,7 @@
+use Rattle.std.proofs.Common.{◌≡◌, ◌≤◌, take}
+use Rattle.std.specs.List.{count_by}
+use Rattle.scw_link.specs.Classes.{is_static}
+use Rattle.scw_link.proofs.classes.static_fields.Given as goal
+
+abbrev pub invariant-loop-field : goal.invariant-loop-field
+invariant-loop-field l = record { counted : l.count ≡ count_by is_static (take l.field-index l.fields); few : l.count ≤ l.field-index }
