@@ -1,0 +1,4 @@
+pub mod OutputLemmas
+pub mod RunLemmas
+pub mod LoadLemmas
+pub mod TellLemmas

@@ -1,0 +1,20 @@
+//! The machine that runs class files (JVMS 2): a program is loaded, and its steps are done one after another.
+#![tactic(auto)]
+
+mod end;
+mod loading;
+mod machine;
+#[cfg(test)]
+mod machine_tests;
+mod output;
+#[cfg(test)]
+mod output_tests;
+mod row;
+mod tell;
+#[cfg(test)]
+mod tests;
+
+pub use end::{End, Place, Turn};
+pub use loading::{LoadFault, load};
+pub use machine::Machine;
+pub use output::Output;

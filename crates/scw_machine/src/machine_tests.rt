@@ -1,0 +1,149 @@
+//! Small programs: how many rows a run does, and why it answers.
+
+ghost use Rattle.std.specs.Prelude.{◌≡◌, IfOk, true};
+
+use crate::output_tests::sink;
+use crate::tell::{put_message, put_name};
+use crate::{End, Machine, Output, Place, Turn};
+use scw_frame::{
+    Frames, Instruction, Method, MethodNumber, Operation, Origin, Primitive, Program, Target, Value,
+};
+use scw_heap::Heap;
+use scw_step::State;
+use scw_text::NoMemory;
+use sqlite_items::Items;
+use std::alloc::Global;
+use std::test::Fail;
+
+const CALL: Operation = Operation::CallStatic(Target::Code(MethodNumber(1)));
+
+const NEW_INTS: Operation = Operation::NewNumbers(Primitive::Int);
+
+/// A method of a stack of two places, whose instructions take one byte each.
+fn method(alloc: Global, start: u32, operations: &[Operation]) -> Result<Method, NoMemory> {
+    let mut code = Items::new(alloc);
+    let mut next = 0u16;
+    for operation in operations {
+        next = next.saturating_add(1);
+        code.push(Instruction {
+            operation: *operation,
+            next,
+        })?;
+    }
+    Ok(Method {
+        origin: Origin {
+            file: 7,
+            method: 3,
+            start,
+        },
+        arguments: Items::new(alloc),
+        stack: 2,
+        locals: 0,
+        code,
+        guards: Items::new(alloc),
+    })
+}
+
+/// A machine that begins with the method of the number, which is 0 or 1. Both have these instructions. It has four units
+/// of heap, and one frame.
+fn machine(alloc: Global, number: u32, operations: &[Operation]) -> Result<Machine, NoMemory>
+    ensures { IfOk result (λ m. (m.live ≡ true) × (m.done ≡ 0)) }
+{
+    let mut methods = Items::new(alloc);
+    methods.push(method(alloc, 1000, operations)?)?;
+    methods.push(method(alloc, 2000, operations)?)?;
+    let program = Program {
+        classes: Items::new(alloc),
+        methods,
+        selectors: Items::new(alloc),
+        types: Items::new(alloc),
+        texts: Items::new(alloc),
+        switches: Items::new(alloc),
+        statics: Items::new(alloc),
+    };
+    let state = State {
+        frames: Frames::new(alloc, MethodNumber(number), 2, 0, 1, 100)?,
+        heap: Heap::new(alloc, 4)?,
+        statics: Items::new(alloc),
+        unit: 0,
+    };
+    Ok(Machine::start(program, state, Output::new(alloc, 4)?))
+}
+
+/// An instruction of the method that isn't defined.
+fn stuck(at: u32) -> End {
+    End::Stuck(Place {
+        class: 7,
+        method: 3,
+        at,
+    })
+}
+
+#[test]
+fn a_run_stops_where_it_must(rt: HostRuntime) -> Result<(), Fail> {
+    let alloc = rt.alloc();
+    let idle = [Operation::Nothing, Operation::Nothing, Operation::Return];
+    let ints = [Operation::Push(Value::Int(100)), NEW_INTS];
+    let short = [Operation::Nothing];
+    for (operations, steps, end, done, shows) in [
+        (idle.as_slice(), 10, End::Ended, 3, "it returns"),
+        (idle.as_slice(), 3, End::Ended, 3, "in the last row"),
+        (idle.as_slice(), 2, End::Steps, 2, "one row is left"),
+        (idle.as_slice(), 0, End::Steps, 0, "no row"),
+        (
+            ints.as_slice(),
+            9,
+            End::HeapFull { need: 26 },
+            1,
+            "100 ints take 25 units and one",
+        ),
+        ([CALL].as_slice(), 9, End::Frames, 0, "one frame is all"),
+        (short.as_slice(), 9, stuck(2001), 1, "the code ends"),
+    ] {
+        let mut sink = sink(alloc, 0)?;
+        let mut machine = machine(alloc, 1, operations)?;
+        assert_eq!(rt; machine.run(&mut sink, steps), end, "{shows}");
+        assert_eq!(rt; machine.done(), done, "{shows}");
+        assert_eq!(rt; sink.taken(), "".as_bytes(), "{shows}");
+    }
+    Ok(())
+}
+
+#[test]
+fn the_first_method_has_no_places_of_its_own(rt: HostRuntime) -> Result<(), Fail> {
+    let alloc = rt.alloc();
+    let mut sink = sink(alloc, 0)?;
+    let mut machine = machine(alloc, 0, &[Operation::Nothing])?;
+    assert_eq!(rt; machine.run(&mut sink, 9), stuck(1000));
+    Ok(())
+}
+
+#[test]
+fn a_step_is_one_row(rt: HostRuntime) -> Result<(), Fail> {
+    let alloc = rt.alloc();
+    for (operation, turn, done, shows) in [
+        (Operation::Nothing, Turn::On, 1, "it goes on"),
+        (Operation::Return, Turn::Done(End::Ended), 1, "it returns"),
+        (Operation::Undefined, Turn::Done(stuck(2000)), 0, "it stops"),
+    ] {
+        let mut sink = sink(alloc, 0)?;
+        let mut machine = machine(alloc, 1, &[operation])?;
+        assert_eq!(rt; machine.step(&mut sink), turn, "{shows}");
+        assert_eq!(rt; machine.done(), done, "{shows}");
+    }
+    Ok(())
+}
+
+#[test]
+fn a_class_is_told_with_dots(rt: HostRuntime) -> Result<(), Fail> {
+    let alloc = rt.alloc();
+    let heap = Heap::new(alloc, 1)?;
+    let mut sink = sink(alloc, 0)?;
+    assert_eq!(rt;
+        put_name(&[0x61, 0x2f, 0xe9, 0x2f, 0x62], &mut sink),
+        Ok(())
+    );
+    assert_eq!(rt; put_message(&heap, 0, &mut sink), Ok(()));
+    assert_eq!(rt; sink.taken(), "a.é.b".as_bytes());
+    Ok(())
+}
