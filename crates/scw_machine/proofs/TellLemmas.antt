@@ -1,17 +1,18 @@
 -- The bytes of an exception's line, put one part after the other.
-use Rattle.std.proofs.Common.{◌≡◌, ◌≢◌, ℕ, ◌+◌, ◌-◌, ◌<◌, ◌≤◌, cond, List, [], ◌++◌, length, map, drop, Option, Some, None, IfSome, Result, Ok, Err, OnOk, OnErr, refl, sym, ap, ◌∙◌, subst, ne_eqb, append_assoc}
-use Rattle.std.specs.Prelude.{IsSome, slice_get, slice_index, codes}
+use Rattle.std.proofs.Common.{◌≡◌, ℕ, ◌+◌, ◌-◌, ◌<◌, ◌≤◌, false, List, [], ◌∷◌, ◌++◌, length, map, drop, Option, Some, None, IfSome, Result, Ok, Err, OnOk, OnErr, refl, sym, ap, ◌∙◌, subst, arith, append_assoc}
+use Rattle.std.specs.Prelude.{IsSome, IsSomeAnd, is_some, slice_get, slice_index, codes}
 use Rattle.std.specs.Io.KnownBytes.{append_known}
 use Rattle.std.proofs.lemmas.List.{get_or-map}
 use Rattle.scw_outside.specs.Puts.{TookPart}
 use Rattle.scw_frame.specs.declared.program.Program.{Program}
 use Rattle.scw_heap.specs.declared.kind.Kind.{Kind}
-use Rattle.scw_heap.specs.Heap.{Entity, object_at, words_at}
+use Rattle.scw_heap.specs.declared.kind.Kind.TheVariants.{Text}
+use Rattle.scw_heap.specs.Heap.{Entity, object_at, words_at, words_in}
 use Rattle.scw_step.specs.TextStep.{dotted}
 use Rattle.scw_value.specs.Text.{bytes_at, units_at, utf8}
 use Rattle.scw_value.proofs.EncodedLemmas.{utf8-drop, units_at-within, units_at-some}
-use Rattle.scw_machine.specs.Output.{IsParted}
-use Rattle.scw_machine.specs.Tell.{class_in, class_of, message_at, message_told, name_at, name_in, told}
+use Rattle.scw_machine.specs.Output.{IsParted, IsText}
+use Rattle.scw_machine.specs.Tell.{class_in, class_of, message_as, message_at, message_in, message_told, name_at, name_in, told}
 use Rattle.scw_machine.proofs.OutputLemmas.{append_known-none, parted-more, part-front, part-more, room-front, room-more}
 use Rattle.scw_machine.proofs.RunLemmas.{parted-all, put-whole}
 
@@ -34,22 +35,39 @@ encoded-some first units second takes = rw takes (units_at-some first second)
 
 -- ---- an object
 
-pub there : (p : Program) (found : Option Entity) → IsSome (class_in p found) → IsSome found
-there p None is = is
-there p (Some object) is = refl
-
 -- the name of an object's class
 pub named : (p : Program) (found : Option Entity) (kind : Kind) → IsSome found → IfSome found (λ object. kind ≡ object.kind) → name_in (class_of p kind) ≡ name_in (class_in p found)
 named p None kind some is = absurd (cc)
 named p (Some object) kind some is = ap (λ k. name_in (class_of p k)) is
 
-pub message-none : (objects : List Entity) (message : ℕ) → message ≡ 0 → message_told objects message ≡ []
-unfolding message_told
-message-none objects message none = rw none refl
+pub nameless : (p : Program) (found : Option Entity) → is_some found ≡ false → name_in (class_in p found) ≡ []
+nameless p None none = refl
+nameless p (Some object) none = absurd (cc)
 
-pub message-some : (objects : List Entity) (message : ℕ) → message ≢ 0 → codes ": " ++ utf8 (words_at objects message) ≡ message_told objects message
+-- what is in no field
+pub wordless : (found : Option Entity) → is_some found ≡ false → slice_index (words_in found) 0 ≡ 0
+wordless None none = refl
+wordless (Some object) none = absurd (cc)
+
+index-none : (words : List ℕ) → length words ≤ 0 → slice_index words 0 ≡ 0
+index-none [] none = refl
+index-none (x ∷ xs) none = absurd (omega arith)
+
+pub fieldless : (found : Option Entity) (n : ℕ) → IsSome found → IfSome found (λ object. n ≡ length object.words) → n ≤ 0 → slice_index (words_in found) 0 ≡ 0
+fieldless None n some is none = refl
+fieldless (Some object) n some is none = index-none object.words (omega (arith, is))
+
+message-text : (found : Option Entity) → IsSomeAnd found (λ object. object.kind ≡ Text) → codes ": " ++ utf8 (words_in found) ≡ message_in found
+message-text None is = absurd is
+message-text (Some object) is = sym (ap (λ kind. message_as kind object.words) is)
+
+pub message-none : (objects : List Entity) (message : ℕ) → message_in (object_at objects message) ≡ [] → message_told objects message ≡ []
 unfolding message_told
-message-some objects message some = ap (λ b. cond b [] (codes ": " ++ utf8 (words_at objects message))) (sym (ne_eqb message 0 some))
+message-none objects message none = none
+
+pub message-some : (objects : List Entity) (message : ℕ) → IsText objects message → codes ": " ++ utf8 (words_at objects message) ≡ message_told objects message
+unfolding message_told
+message-some objects message is = message-text (object_at objects message) is
 
 -- ---- parts of a line
 
@@ -60,12 +78,10 @@ pub three_parts : (a b c d : List ℕ) → ((a ++ b) ++ c) ++ d ≡ a ++ (b ++ (
 three_parts a b c d = append_assoc (a ++ b) c d ∙ append_assoc a b (c ++ d)
 
 -- the line, by what the code puts
-pub told-parts : (p : Program) (objects : List Entity) (r : ℕ) (kind : Kind) (name : List ℕ) (message : ℕ)
-    → IsSome (class_in p (object_at objects r)) → IfSome (object_at objects r) (λ object. kind ≡ object.kind) → name ≡ name_in (class_of p kind) → message ≡ message_at objects r
+pub told-parts : (p : Program) (objects : List Entity) (r : ℕ) (name : List ℕ) (message : ℕ) → name ≡ name_at p objects r → message ≡ message_at objects r
     → codes "exception " ++ (utf8 (map dotted name) ++ (message_told objects message ++ codes "\n")) ≡ told p objects r
 unfolding told
-told-parts p objects r kind name message some is name_is message_is =
-    rw (name_is ∙ named p (object_at objects r) kind (there p (object_at objects r) some) is, message_is) refl
+told-parts p objects r name message name_is message_is = rw (name_is, message_is) refl
 
 -- the sink failed in the first part
 pub told-first : (old new : Option (List ℕ)) (p : Program) (objects : List Entity) (r : ℕ) → TookPart old new (codes "exception ") → TookPart old new (told p objects r)

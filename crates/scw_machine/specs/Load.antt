@@ -1,5 +1,5 @@
 -- A machine that is loaded: its program is that of the files, and its state the first one (JVMS 5.2, 2.5 and 2.6).
-use Rattle.std.specs.Prelude.{◌≡◌, ℕ, ◌+◌, ◌-◌, ◌*◌, ◌/◌, ◌%◌, ◌^◌, ◌<◌, Bool, true, false, cond, List, [], ◌∷◌, length, map, replicate, Option, Some, None, IfSome, Result, Ok, Err, nat_lt, slice_get}
+use Rattle.std.specs.Prelude.{◌≡◌, ℕ, ◌+◌, ◌-◌, ◌/◌, ◌%◌, true, false, cond, List, [], ◌∷◌, map, replicate, IfSome, Err, nat_lt, slice_get}
 use Rattle.std.specs.List.{flat_map}
 use Rattle.scw_classfile.specs.declared.class_file.ClassFile.{ClassFile}
 use Rattle.scw_classfile.specs.declared.class_file.FileOut.{FileOut}

@@ -1,5 +1,5 @@
 -- What is told of an exception that no frame caught: its class and its message, in a line.
-use Rattle.std.specs.Prelude.{ℕ, ◌<◌, ◌==◌, cond, List, [], ◌++◌, length, map, Option, Some, None, IsSome, slice_get, slice_index, codes}
+use Rattle.std.specs.Prelude.{ℕ, List, [], ◌++◌, map, Option, Some, None, slice_get, slice_index, codes}
 use Rattle.scw_frame.specs.declared.program.Class.{Class}
 use Rattle.scw_frame.specs.declared.program.Program.{Program}
 use Rattle.scw_heap.specs.declared.kind.Kind.{Kind}
@@ -7,7 +7,6 @@ use Rattle.scw_heap.specs.declared.kind.Kind.TheVariants.{Object, Text, Booleans
 use Rattle.scw_heap.specs.Heap.{Entity, object_at, words_at}
 use Rattle.scw_step.specs.TextStep.{dotted}
 use Rattle.scw_value.specs.Text.{utf8}
-use Rattle.scw_machine.specs.Output.{IsText}
 
 -- the class that an object was made of
 abbrev pub class_of : Program → Kind → Option Class
@@ -31,20 +30,28 @@ name_in (Some class) = class.name
 abbrev pub name_at : Program → List Entity → ℕ → List ℕ
 name_at p objects r = name_in (class_in p (object_at objects r))
 
--- the number of its message, 0 for none: the first field
+-- the number in its first field, where an exception has its message; 0 where it has no field
 abbrev pub message_at : List Entity → ℕ → ℕ
 message_at objects r = slice_index (words_at objects r) 0
 
--- an object of a class of the program, whose first field is null or a string
-pub record IsThrowable (p : Program) (objects : List Entity) (r : ℕ) : Type 0 where
-  pub class : IsSome (class_in p (object_at objects r))
-  pub field : 0 < length (words_at objects r)
-  pub message : 0 < message_at objects r → IsText objects (message_at objects r)
+-- the bytes of a message and what stands before it; none for what is no string
+abbrev pub message_as : Kind → List ℕ → List ℕ
+message_as (Object class) words = []
+message_as Text words = codes ": " ++ utf8 words
+message_as Booleans words = []
+message_as Chars words = []
+message_as Ints words = []
+message_as Longs words = []
+message_as (Refs element) words = []
 
--- the bytes of a message and what stands before it; none for null
+abbrev pub message_in : Option Entity → List ℕ
+message_in None = []
+message_in (Some object) = message_as object.kind object.words
+
+-- the same for the object with the number
 unfoldable pub message_told : List Entity → ℕ → List ℕ
-message_told objects message = cond (message == 0) [] (codes ": " ++ utf8 (words_at objects message))
+message_told objects message = message_in (object_at objects message)
 
--- the whole line
+-- the whole line, for any number
 unfoldable pub told : Program → List Entity → ℕ → List ℕ
 told p objects r = codes "exception " ++ (utf8 (map dotted (name_at p objects r)) ++ (message_told objects (message_at objects r) ++ codes "\n"))

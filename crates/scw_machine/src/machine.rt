@@ -4,7 +4,7 @@ ghost use Rattle.std.specs.Prelude.{◌≡◌, ◌≢◌, ◌+◌, ◌<◌, ◌�
 ghost use Rattle.std.specs.Io.KnownBytes.{append_known};
 ghost use Rattle.scw_outside.specs.Causes.{HasCause, Rose};
 ghost use Rattle.scw_outside.specs.Puts.{TookPart};
-ghost use Rattle.scw_machine.specs.Tell.{IsThrowable, told};
+ghost use Rattle.scw_machine.specs.Tell.{told};
 ghost use Rattle.scw_machine.specs.Run.{Came, Ran, end_of};
 ghost use Rattle.scw_machine.specs.Row.{Closed, rows_of};
 ghost use Rattle.scw_machine.specs.declared.end.End.TheVariants.{Steps, SinkFault};
@@ -92,14 +92,13 @@ impl Machine {
         answer.end
     }
 
-    /// Puts `exception` and the name of the exception's class, `: ` and its message if it has one, and a line feed. It takes
-    /// no memory.
+    /// Puts `exception` and the name of the exception's class, `: ` and its message if it has one, and a line feed. For what is
+    /// no object of a class of the program the name has no letters. It takes no memory.
     ///
     /// # Errors
     ///
     /// `SinkFailed` where the sink fails, which then has a front of that.
     pub fn tell<E: Sink>(&self, r: Ref, err: &mut E) -> Result<(), SinkFailed>
-        requires { IsThrowable self.now.program self.now.state.heap.objects r.0 }
         ensures ok { OnOk result (E.taken err.new ≡ append_known (E.taken err.old) (told self.now.program self.now.state.heap.objects r.0)) }
         ensures part { OnErr result (TookPart (E.taken err.old) (E.taken err.new) (told self.now.program self.now.state.heap.objects r.0)) }
         ensures sure { IfSome (E.room err.old) (λ room. length (told self.now.program self.now.state.heap.objects r.0) ≤ room → IsOk result) }

@@ -2,13 +2,14 @@
 
 ghost use Rattle.std.specs.Prelude.{◌≡◌, IfOk, true};
 
-use crate::output_tests::sink;
-use crate::tell::{put_message, put_name};
+use crate::output_tests::{sink, string};
+use crate::tell::{put_message, put_name, put_throwable};
 use crate::{End, Machine, Output, Place, Turn};
 use scw_frame::{
-    Frames, Instruction, Method, MethodNumber, Operation, Origin, Primitive, Program, Target, Value,
+    Class, Frames, Instruction, Method, MethodNumber, Operation, Origin, Primitive, Program,
+    Target, Value,
 };
-use scw_heap::Heap;
+use scw_heap::{Heap, Kind, Ref};
 use scw_step::State;
 use scw_text::NoMemory;
 use sqlite_items::Items;
@@ -44,6 +45,26 @@ fn method(alloc: Global, start: u32, operations: &[Operation]) -> Result<Method,
     })
 }
 
+/// A program of the methods, with the class `a/B`, whose objects have one field.
+fn program(alloc: Global, methods: Items<Method>) -> Result<Program, NoMemory> {
+    let mut classes = Items::new(alloc);
+    classes.push(Class {
+        name: Items::from_slice(alloc, &[0x61, 0x2f, 0x42])?,
+        fields: 1,
+        ancestors: Items::new(alloc),
+        targets: Items::new(alloc),
+    })?;
+    Ok(Program {
+        classes,
+        methods,
+        selectors: Items::new(alloc),
+        types: Items::new(alloc),
+        texts: Items::new(alloc),
+        switches: Items::new(alloc),
+        statics: Items::new(alloc),
+    })
+}
+
 /// A machine that begins with the method of the number, which is 0 or 1. Both have these instructions. It has four units
 /// of heap, and one frame.
 fn machine(alloc: Global, number: u32, operations: &[Operation]) -> Result<Machine, NoMemory>
@@ -52,15 +73,7 @@ fn machine(alloc: Global, number: u32, operations: &[Operation]) -> Result<Machi
     let mut methods = Items::new(alloc);
     methods.push(method(alloc, 1000, operations)?)?;
     methods.push(method(alloc, 2000, operations)?)?;
-    let program = Program {
-        classes: Items::new(alloc),
-        methods,
-        selectors: Items::new(alloc),
-        types: Items::new(alloc),
-        texts: Items::new(alloc),
-        switches: Items::new(alloc),
-        statics: Items::new(alloc),
-    };
+    let program = program(alloc, methods)?;
     let state = State {
         frames: Frames::new(alloc, MethodNumber(number), 2, 0, 1, 100)?,
         heap: Heap::new(alloc, 4)?,
@@ -145,5 +158,47 @@ fn a_class_is_told_with_dots(rt: HostRuntime) -> Result<(), Fail> {
     );
     assert_eq!(rt; put_message(&heap, 0, &mut sink), Ok(()));
     assert_eq!(rt; sink.taken(), "a.é.b".as_bytes());
+    Ok(())
+}
+
+#[test]
+fn a_message_is_told_behind_a_colon(rt: HostRuntime) -> Result<(), Fail> {
+    let alloc = rt.alloc();
+    let mut heap = Heap::new(alloc, 9)?;
+    let empty = string(&mut heap, &[]);
+    let short = string(&mut heap, &[0xe9]);
+    for (message, bytes, shows) in [
+        (0, "", "null"),
+        (empty, ": ", "no letters"),
+        (short, ": é", "a letter"),
+        (9, "", "no object"),
+    ] {
+        let mut sink = sink(alloc, 0)?;
+        assert_eq!(rt; put_message(&heap, message, &mut sink), Ok(()));
+        assert_eq!(rt; sink.taken(), bytes.as_bytes(), "{shows}");
+    }
+    Ok(())
+}
+
+#[test]
+fn any_number_is_told_in_a_line(rt: HostRuntime) -> Result<(), Fail> {
+    let alloc = rt.alloc();
+    let program = program(alloc, Items::new(alloc))?;
+    let mut heap = Heap::new(alloc, 9)?;
+    let object = heap.make(Kind::Object(0), 1).unwrap_or(Ref(0));
+    let ints = heap.make(Kind::Ints, 1).unwrap_or(Ref(0));
+    for (r, line, shows) in [
+        (object, "exception a.B\n", "an object of a class"),
+        (ints, "exception \n", "an array"),
+        (Ref(9), "exception \n", "no object"),
+    ] {
+        let mut sink = sink(alloc, 0)?;
+        assert_eq!(rt; put_throwable(&program, &heap, r, &mut sink), Ok(()));
+        assert_eq!(rt; sink.taken(), line.as_bytes(), "{shows}");
+    }
+    let machine = machine(alloc, 1, &[])?;
+    let mut sink = sink(alloc, 0)?;
+    assert_eq!(rt; machine.tell(Ref(1), &mut sink), Ok(()));
+    assert_eq!(rt; sink.taken(), "exception \n".as_bytes());
     Ok(())
 }

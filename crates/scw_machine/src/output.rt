@@ -1,15 +1,16 @@
 //! What the machine puts: bytes wait in a buffer, and go to a sink when it is full.
 
-ghost use Rattle.std.specs.Prelude.{◌≡◌, ◌+◌, ◌-◌, ◌<◌, ◌≤◌, [], ◌++◌, length, take, drop, slice_index, Some, IfSome, IfOk, OnOk, OnErr, IsOk};
+ghost use Rattle.std.specs.Prelude.{◌≡◌, ◌+◌, ◌-◌, ◌<◌, ◌≤◌, [], ◌++◌, length, take, drop, slice_index, Some, IfSome, IfOk, OnOk, OnErr, IsOk, IsTrue, IsFalse};
 ghost use Rattle.std.specs.Io.KnownBytes.{append_known};
 ghost use Rattle.std.specs.Vec.{vec_capacity, vec_len};
 ghost use Rattle.scw_outside.specs.Causes.{HasCause};
 ghost use Rattle.scw_outside.specs.Puts.{TookPart};
-ghost use Rattle.scw_heap.specs.Heap.{words_at};
+ghost use Rattle.scw_heap.specs.Heap.{object_at, words_at};
 ghost use Rattle.scw_value.specs.Text.{utf8};
-ghost use Rattle.scw_machine.specs.Output.{IsParted, IsText, said};
+ghost use Rattle.scw_machine.specs.Output.{IsParted, IsText, bytes_in, said};
+ghost use Rattle.scw_machine.specs.Tell.{message_in};
 
-use scw_heap::{Heap, Ref};
+use scw_heap::{Heap, Kind, Ref};
 use scw_outside::{Sink, SinkFailed, put_all};
 use scw_text::NoMemory;
 use scw_value::{Encoded, encode};
@@ -134,6 +135,15 @@ fn append(waiting: &mut Vec<u8>, bytes: &[u8])
     ensures capacity { vec_capacity waiting.old ≤ vec_capacity waiting.new }
 {
     waiting.extend_from_slice(bytes).unwrap();
+}
+
+/// Whether the number is that of a string.
+pub fn is_text(heap: &Heap, r: u64) -> bool
+    ensures text { IsTrue result → IsText heap.now.objects r }
+    ensures other { IsFalse result → bytes_in (object_at heap.now.objects r) ≡ [] }
+    ensures message { IsFalse result → message_in (object_at heap.now.objects r) ≡ [] }
+{
+    heap.has(r) && matches!(heap.kind(Ref(r)), Kind::Text)
 }
 
 /// The code unit of the string at `i`.

@@ -12,7 +12,7 @@ use std::alloc::Global;
 use std::test::Fail;
 
 /// A fresh string of the units, or null where the heap is full.
-fn string(heap: &mut Heap, units: &[u16]) -> u64
+pub fn string(heap: &mut Heap, units: &[u16]) -> u64
     requires { length units.now < 2 ^ 32 }
     ensures { 0 < result → IsText heap.new.objects result }
 {

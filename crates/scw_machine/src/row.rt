@@ -3,25 +3,16 @@
 ghost use Rattle.std.specs.Prelude.{◌≡◌, ◌<◌, ◌≤◌, [], ◌++◌, length, IfSome, OnOk, OnErr, IsOk, IsTrue, IsFalse};
 ghost use Rattle.scw_outside.specs.Causes.{HasCause};
 ghost use Rattle.scw_outside.specs.Puts.{TookPart};
-ghost use Rattle.scw_heap.specs.Heap.{object_at};
-ghost use Rattle.scw_machine.specs.Output.{IsParted, IsText, bytes_in, said_by};
+ghost use Rattle.scw_machine.specs.Output.{IsParted, IsText, said_by};
 ghost use Rattle.scw_machine.specs.Row.{Turned, end_by};
 ghost use Rattle.scw_machine.specs.Run as run;
 
 use crate::end::{End, Place};
-use crate::output::Output;
+use crate::output::{Output, is_text};
 use scw_frame::{MethodNumber, Program};
-use scw_heap::{Heap, Kind, Ref};
+use scw_heap::{Heap, Ref};
 use scw_outside::{Sink, SinkFailed};
 use scw_step::{Event, State, Stop, step};
-
-/// Whether the number is that of a string.
-fn is_text(heap: &Heap, r: u64) -> bool
-    ensures text { IsTrue result → IsText heap.now.objects r }
-    ensures other { IsFalse result → bytes_in (object_at heap.now.objects r) ≡ [] }
-{
-    heap.has(r) && matches!(heap.kind(Ref(r)), Kind::Text)
-}
 
 /// Whether something is said of the number: null or a string.
 fn is_said(heap: &Heap, r: u64) -> bool

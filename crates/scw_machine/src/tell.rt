@@ -7,9 +7,9 @@ ghost use Rattle.scw_heap.specs.Heap.{words_at};
 ghost use Rattle.scw_step.specs.TextStep as step;
 ghost use Rattle.scw_value.specs.Text.{utf8};
 ghost use Rattle.scw_machine.specs.Output.{IsParted, IsText};
-ghost use Rattle.scw_machine.specs.Tell.{IsThrowable, class_of, message_told, name_in, told};
+ghost use Rattle.scw_machine.specs.Tell.{class_of, message_at, message_told, name_at, name_in, told};
 
-use crate::output::character_at;
+use crate::output::{character_at, is_text};
 use scw_frame::Program;
 use scw_heap::{Heap, Kind, Ref};
 use scw_outside::{Sink, SinkFailed, put_all};
@@ -78,15 +78,14 @@ fn put_text<O: Sink>(heap: &Heap, text: Ref, out: &mut O) -> Result<(), SinkFail
     Ok(())
 }
 
-/// Puts the message with the number, and what stands before it; nothing for null.
+/// Puts the message with the number, and what stands before it; nothing for what is no string.
 pub fn put_message<O: Sink>(heap: &Heap, message: u64, out: &mut O) -> Result<(), SinkFailed>
-    requires { 0 < message → IsText heap.now.objects message }
     ensures parted { OnOk result (IsParted (O.taken out.old) (O.taken out.new) (O.room out.old) (O.room out.new) (message_told heap.now.objects message) []) }
     ensures part { OnErr result (TookPart (O.taken out.old) (O.taken out.new) (message_told heap.now.objects message)) }
     ensures sure { IfSome (O.room out.old) (λ room. length (message_told heap.now.objects message) ≤ room → IsOk result) }
     ensures cause { HasCause (O.fault_count out.old) (O.fault_count out.new) result (record {}) }
 {
-    if message == 0 {
+    if !is_text(heap, message) {
         return Ok(());
     }
     put_all(out, b": ")?;
@@ -94,7 +93,7 @@ pub fn put_message<O: Sink>(heap: &Heap, message: u64, out: &mut O) -> Result<()
 }
 
 /// The name of the class that objects of the kind are made of; none where that isn't one of the program.
-fn name_of(program: &Program, kind: Kind) -> &[u16]
+fn name_of_kind(program: &Program, kind: Kind) -> &[u16]
     ensures { result.now ≡ name_in (class_of program.now kind) }
 {
     match kind {
@@ -106,6 +105,27 @@ fn name_of(program: &Program, kind: Kind) -> &[u16]
     }
 }
 
+/// The name of the class of the object with the number; none where there is no such object.
+fn name_of<'a>(program: &'a Program, heap: &Heap, r: Ref) -> &'a [u16]
+    ensures { result.now ≡ name_at program.now heap.now.objects r.0 }
+{
+    if !heap.has(r.0) {
+        return &[];
+    }
+    name_of_kind(program, heap.kind(r))
+}
+
+/// The number in the first field of the object, where an exception has its message; 0 where it has no field.
+fn message_of(heap: &Heap, r: Ref) -> u64
+    ensures { result ≡ message_at heap.now.objects r.0 }
+{
+    if heap.has(r.0) && 0 < heap.length(r) {
+        heap.get(r, 0)
+    } else {
+        0
+    }
+}
+
 /// Puts the line for the exception.
 pub fn put_throwable<O: Sink>(
     program: &Program,
@@ -113,14 +133,13 @@ pub fn put_throwable<O: Sink>(
     r: Ref,
     out: &mut O,
 ) -> Result<(), SinkFailed>
-    requires { IsThrowable program.now heap.now.objects r.0 }
     ensures parted { OnOk result (IsParted (O.taken out.old) (O.taken out.new) (O.room out.old) (O.room out.new) (told program.now heap.now.objects r.0) []) }
     ensures part { OnErr result (TookPart (O.taken out.old) (O.taken out.new) (told program.now heap.now.objects r.0)) }
     ensures sure { IfSome (O.room out.old) (λ room. length (told program.now heap.now.objects r.0) ≤ room → IsOk result) }
     ensures cause { HasCause (O.fault_count out.old) (O.fault_count out.new) result (record {}) }
 {
     put_all(out, b"exception ")?;
-    put_name(name_of(program, heap.kind(r)), out)?;
-    put_message(heap, heap.get(r, 0), out)?;
+    put_name(name_of(program, heap, r), out)?;
+    put_message(heap, message_of(heap, r), out)?;
     put_all(out, b"\n")
 }

@@ -1,4 +1,3 @@
-use Rattle.std.proofs.Common.{◌≡◌, List, [], ◌∷◌, ◌++◌, take}
 use Rattle.std.proofs.lemmas.List.{take_more}
 use Rattle.scw_machine.proofs.LoadLemmas.{AreFilesOf-push}
 use Rattle.scw_machine.proofs.loading.classes_of.Goals as goal
