@@ -1,7 +1,7 @@
 -- Frames in memory: what a value more or less, and a frame more or less, leaves.
-use Rattle.std.proofs.Common.{◌≡◌, ℕ, ◌+◌, ◌-◌, ◌<◌, ◌≤◌, suc, zero, List, [], ◌∷◌, ◌++◌, length, take, drop, set, replicate, reverse, nat_lt, nat_le, ◌&&◌, Bool, true, false, IsTrue, sym, ◌∙◌, ap, refl, arith}
+use Rattle.std.proofs.Common.{◌≡◌, ℕ, ◌+◌, ◌-◌, ◌<◌, ◌≤◌, suc, zero, List, [], ◌∷◌, ◌++◌, length, take, drop, set, replicate, reverse, nat_le, ◌&&◌, Bool, true, false, IsTrue, sym, ◌∙◌, ap, refl, arith}
 use Rattle.std.proofs.lemmas.List.{length-drop, length-take, length-take-le, length-reverse, length-append, reverse-append, reverse-reverse, take-append-drop, take-set-le, take-take, drop-drop, length-replicate}
-use Rattle.std.proofs.lemmas.Bool.{ltb-true, leb-true}
+use Rattle.std.proofs.lemmas.Bool.{leb-true}
 use Rattle.std.proofs.Math.Seq.{drop-append_seam, take-append_seam}
 use Rattle.scw_frame.specs.declared.value.Value.{Value}
 use Rattle.scw_frame.specs.declared.value.Value.TheVariants.{Unset, Int, Long, Reference}
@@ -225,7 +225,7 @@ words-calls_of a more operands locals most_frames most_words h =
 
 pub can_enter-calls_of : (a : Activation) (more : List Activation) (operands locals : List Value) (most_frames most_words room added : ℕ) → AllFit (a ∷ more) operands locals →
     can_enter room added (calls_of a more operands locals most_frames most_words)
-    ≡ (nat_lt (length more + 1) most_frames && nat_le (words_for_all (a ∷ more) + 1 + room + added) most_words)
+    ≡ (nat_le (length more + 2) most_frames && nat_le (words_for_all (a ∷ more) + 1 + room + added) most_words)
 can_enter-calls_of a more operands locals most_frames most_words room added h =
     rw (length-frames_of more (operands_below a operands) (locals_below a locals), words-calls_of a more operands locals most_frames most_words h) refl
 
@@ -249,13 +249,13 @@ Enters-from a callers items ls in_use most_frames most_words room locals count h
     let within : count ≤ a.operands = omega (arith, length-take-le a.operands (reverse items) h.0.operands_there) in
     let top : places (take count (take a.operands (reverse items))) ≡ places (take count (reverse items)) =
     ap places (take-take count a.operands (reverse items) within) in
-    let both : (nat_lt (length (reverse callers) + 1) most_frames && nat_le (words_for_all (a ∷ reverse callers) + 1 + room + locals) most_words) ≡ true = sym (can_enter-calls_of a (reverse callers) (reverse items) ls most_frames most_words room locals h) ∙ limits in
+    let both : (nat_le (length (reverse callers) + 2) most_frames && nat_le (words_for_all (a ∷ reverse callers) + 1 + room + locals) most_words) ≡ true = sym (can_enter-calls_of a (reverse callers) (reverse items) ls most_frames most_words room locals h) ∙ limits in
     record {
       taken = within;
       fit = omega (arith, places-reverse (take count (take a.operands (reverse items))));
       depth = arguments-le-depth a count (reverse items) ls within h.0;
-      frames = omega (arith, length-reverse callers, ltb-true (length (reverse callers) + 1) most_frames (both-left (nat_lt (length (reverse callers) + 1) most_frames) (nat_le (words_for_all (a ∷ reverse callers) + 1 + room + locals) most_words) both));
-      words = omega (arith, leb-true (words_for_all (a ∷ reverse callers) + 1 + room + locals) most_words (both-right (nat_lt (length (reverse callers) + 1) most_frames) (nat_le (words_for_all (a ∷ reverse callers) + 1 + room + locals) most_words) both));
+      frames = omega (arith, length-reverse callers, leb-true (length (reverse callers) + 2) most_frames (both-left (nat_le (length (reverse callers) + 2) most_frames) (nat_le (words_for_all (a ∷ reverse callers) + 1 + room + locals) most_words) both));
+      words = omega (arith, leb-true (words_for_all (a ∷ reverse callers) + 1 + room + locals) most_words (both-right (nat_le (length (reverse callers) + 2) most_frames) (nat_le (words_for_all (a ∷ reverse callers) + 1 + room + locals) most_words) both));
     }
 
 pub Enters-seen : (a : Activation) (callers : List Activation) (items ls : List Value) (in_use most_frames most_words : ℕ) (room locals count : ℕ) (now : Calls) →

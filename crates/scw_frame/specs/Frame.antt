@@ -1,5 +1,5 @@
 -- Frames: JVMS 2.6. Each has its local variables and its operand stack, of which a Long takes two places.
-use Rattle.std.specs.Prelude.{◌≡◌, ℕ, ◌+◌, Bool, ◌&&◌, true, false, List, [], ◌∷◌, ◌++◌, length, take, drop, reverse, replicate, nat_le, nat_lt, ◌-◌}
+use Rattle.std.specs.Prelude.{◌≡◌, ℕ, ◌+◌, Bool, ◌&&◌, true, false, List, [], ◌∷◌, ◌++◌, Option, Some, None, length, take, drop, reverse, replicate, nat_le, ◌-◌}
 use Rattle.scw_frame.specs.declared.value.Value.{Value}
 use Rattle.scw_frame.specs.declared.value.Value.TheVariants.{Unset, Int, Long, Reference}
 use Rattle.scw_frame.specs.declared.value.ValueKind.{ValueKind}
@@ -16,12 +16,18 @@ pub record Frame : Type 0 where
   -- the top first
   pub stack : List Value
 
--- the frame that acts, the frames that wait, the innermost first, and how many frames and words of frames there may be
+-- the frame that acts, the frames that wait, the innermost first, and how many frames and words of frames there may be;
+-- None sets no limit
 pub record Calls : Type 0 where
   pub current : Frame
   pub callers : List Frame
-  pub most_frames : ℕ
-  pub most_words : ℕ
+  pub most_frames : Option ℕ
+  pub most_words : Option ℕ
+
+-- so many are within a limit, if there is one
+abbrev pub within : Option ℕ → ℕ → Bool
+within None n = true
+within (Some most) n = nat_le n most
 
 -- how many places a value takes
 abbrev pub places_of : Value → ℕ
@@ -112,9 +118,9 @@ arguments count c = reverse (take count c.current.stack)
 abbrev pub are_arguments : List ValueKind → Calls → Bool
 are_arguments kinds c = nat_le (length kinds) (length c.current.stack) && are_of kinds (arguments (length kinds) c)
 
--- the limits leave room for one more frame, with so many places on its stack and local variables
+-- the limits leave room for one frame beside those there are, with so many places on its stack and local variables
 abbrev pub can_enter : ℕ → ℕ → Calls → Bool
-can_enter room locals c = nat_lt (length c.callers + 1) c.most_frames && nat_le (words c + 1 + room + locals) c.most_words
+can_enter room locals c = within c.most_frames (length c.callers + 2) && within c.most_words (words c + 1 + room + locals)
 
 abbrev pub frame_for : MethodNumber → ℕ → List Value → Frame
 frame_for method room locals = record { method = method; place = 0; room = room; locals = locals; stack = [] }

@@ -1,6 +1,6 @@
 -- How frames lie in memory: the operands of all frames in one list and their local variables in another, those of the
 -- frame that acts last; and for each frame how many it has of both.
-use Rattle.std.specs.Prelude.{◌≡◌, ℕ, ◌+◌, ◌-◌, ◌≤◌, List, [], ◌∷◌, length, take, drop, reverse}
+use Rattle.std.specs.Prelude.{◌≡◌, ℕ, ◌+◌, ◌-◌, ◌≤◌, Some, List, [], ◌∷◌, length, take, drop, reverse}
 use Rattle.scw_frame.specs.declared.value.Value.{Value}
 use Rattle.scw_frame.specs.declared.frames.Activation.{Activation}
 use Rattle.scw_frame.specs.Frame.{Frame, Calls, places}
@@ -31,8 +31,8 @@ abbrev pub calls_of : Activation → List Activation → List Value → List Val
 calls_of current callers operands locals most_frames most_words = record {
   current = frame_of current operands locals;
   callers = frames_of callers (operands_below current operands) (locals_below current locals);
-  most_frames = most_frames;
-  most_words = most_words;
+  most_frames = Some most_frames;
+  most_words = Some most_words;
 }
 
 -- the words that the frame takes

@@ -81,7 +81,7 @@ impl Frames {
     ) -> Result<Frames, NoMemory>
         requires frames { 1 ≤ most_frames }
         requires words { 1 + room + locals ≤ most_words }
-        ensures { IfOk result (λ f. f ≡ record { current = frame_for method room (replicate locals Unset); callers = []; most_frames = most_frames; most_words = most_words }) }
+        ensures { IfOk result (λ f. f ≡ record { current = frame_for method room (replicate locals Unset); callers = []; most_frames = Some most_frames; most_words = Some most_words }) }
     {
         let operands = Vec::with_capacity(alloc, most_words as usize)?;
         let mut variables = Vec::with_capacity(alloc, most_words as usize)?;

@@ -14,13 +14,13 @@ IsSound-laid_out objects ws units capacity h within reserved small =
     record { laid_out = subst P (sym (objects_of-laid_out objects ws h)) h; within = within; reserved = reserved; small = small }
 
 -- the heap's objects are those of the arena
-pub laid_out-view : (heap : Content) (ws : List ℕ) (units capacity : ℕ) → IsSound ws units capacity → record { objects = objects_of ws; units = units } ≡ heap → AreLaidOut heap.objects ws
+pub laid_out-view : (heap : Content) (ws : List ℕ) (units capacity : ℕ) → IsSound ws units capacity → record { objects = objects_of ws; units = Some units } ≡ heap → AreLaidOut heap.objects ws
 laid_out-view heap ws units capacity s e = let P : Content → Type 0 = λ c. AreLaidOut c.objects ws in subst P e s.laid_out
 
 -- the units in use, and those reserved
-pub used_in : (heap : Content) (ws : List ℕ) (units capacity : ℕ) → IsSound ws units capacity → record { objects = objects_of ws; units = units } ≡ heap → (length ws ≡ 2 * used heap.objects) × (units ≡ heap.units)
+pub used_in : (heap : Content) (ws : List ℕ) (units capacity : ℕ) → IsSound ws units capacity → record { objects = objects_of ws; units = Some units } ≡ heap → (length ws ≡ 2 * used heap.objects) × (Some units ≡ heap.units)
 used_in heap ws units capacity s e =
-    let U : Content → ℕ = λ c. c.units in
+    let U : Content → Option ℕ = λ c. c.units in
     (length-laid_out heap.objects ws (laid_out-view heap ws units capacity s e), ap U e)
 
 -- a bound on the words of an object that is there
@@ -28,7 +28,7 @@ pub narrow_at : (x : Option Entity) (v : ℕ) (o : Entity) → IfSome x (λ y. v
 narrow_at x v o h e = let P : Option Entity → Type 0 = λ z. IfSome z (λ y. v < limit_of y.kind) in subst P e h
 
 -- the arena with one word changed, of which us are the words
-pub laid_out-set : (heap : Content) (ws us : List ℕ) (units capacity n i v j shift width x w : ℕ) → IsSound ws units capacity → record { objects = objects_of ws; units = units } ≡ heap → us ≡ ws → i < length (words_at heap.objects n) → IfSome (object_at heap.objects n) (λ y. v < limit_of y.kind) → j ≡ 2 * (n - 1) + 2 + cell_of (kind_of (get_or us (2 * (n - 1)) 0)) i → shift ≡ shift_of (kind_of (get_or us (2 * (n - 1)) 0)) i → width ≡ width_of (kind_of (get_or us (2 * (n - 1)) 0)) → j < length us → x ≡ get_or ws j x → w ≡ with_field x shift width v → AreLaidOut (with_word heap.objects n i v) (set ws j w)
+pub laid_out-set : (heap : Content) (ws us : List ℕ) (units capacity n i v j shift width x w : ℕ) → IsSound ws units capacity → record { objects = objects_of ws; units = Some units } ≡ heap → us ≡ ws → i < length (words_at heap.objects n) → IfSome (object_at heap.objects n) (λ y. v < limit_of y.kind) → j ≡ 2 * (n - 1) + 2 + cell_of (kind_of (get_or us (2 * (n - 1)) 0)) i → shift ≡ shift_of (kind_of (get_or us (2 * (n - 1)) 0)) i → width ≡ width_of (kind_of (get_or us (2 * (n - 1)) 0)) → j < length us → x ≡ get_or ws j x → w ≡ with_field x shift width v → AreLaidOut (with_word heap.objects n i v) (set ws j w)
 laid_out-set heap ws us units capacity n i v j shift width x w s e u l m p q r t y z =
     let f : (o : Entity) × (object_at heap.objects n ≡ Some o) × LiesAt o us n × (i < length o.words) =
     word_found heap ws us units capacity n i s e u l in
@@ -46,7 +46,7 @@ laid_out-set heap ws us units capacity n i v j shift width x w s e u l m p q r t
     (narrow_at (object_at heap.objects n) v f.0 m f.1) (omega arith))
 
 -- the arena with a fresh object
-pub laid_out-made : (heap : Content) (ws us : List ℕ) (units capacity : ℕ) (kind : Kind) (n : ℕ) → IsSound ws units capacity → record { objects = objects_of ws; units = units } ≡ heap → n < 2 ^ 32 → code_of kind < 2 ^ 35 → us ≡ ws ++ (code_of kind ∷ n ∷ replicate (2 * units_of kind n - 2) 0) → AreLaidOut (heap.objects ++ zeroed kind n ∷ []) us
+pub laid_out-made : (heap : Content) (ws us : List ℕ) (units capacity : ℕ) (kind : Kind) (n : ℕ) → IsSound ws units capacity → record { objects = objects_of ws; units = Some units } ≡ heap → n < 2 ^ 32 → code_of kind < 2 ^ 35 → us ≡ ws ++ (code_of kind ∷ n ∷ replicate (2 * units_of kind n - 2) 0) → AreLaidOut (heap.objects ++ zeroed kind n ∷ []) us
 laid_out-made heap ws us units capacity kind n s e l m q =
     let P : List ℕ → Type 0 = λ xs. AreLaidOut (heap.objects ++ zeroed kind n ∷ []) xs in
     let zs : List ℕ = replicate (2 * units_of kind n - 2) 0 in

@@ -69,7 +69,7 @@ pub lies : (objects : List Entity) (ws : List ℕ) (n : ℕ) (o : Entity) → Ar
 lies objects ws n o h e = record { some = object_at-positive objects n o e; begins = Begins-object_at objects ws n o h e }
 
 -- an object of a heap, in its arena, of which us are the words
-pub object_found : (heap : Content) (ws us : List ℕ) (units capacity n : ℕ) → IsSound ws units capacity → record { objects = objects_of ws; units = units } ≡ heap → us ≡ ws → IsSome (object_at heap.objects n) → (o : Entity) × (object_at heap.objects n ≡ Some o) × LiesAt o us n
+pub object_found : (heap : Content) (ws us : List ℕ) (units capacity n : ℕ) → IsSound ws units capacity → record { objects = objects_of ws; units = Some units } ≡ heap → us ≡ ws → IsSome (object_at heap.objects n) → (o : Entity) × (object_at heap.objects n ≡ Some o) × LiesAt o us n
 object_found heap ws us units capacity n s e w h =
     let x : (o : Entity) × (object_at heap.objects n ≡ Some o) = some_object (object_at heap.objects n) h in
     let P : Content → Type 0 = λ c. AreLaidOut c.objects ws in
@@ -77,7 +77,7 @@ object_found heap ws us units capacity n s e w h =
     (x.0, x.1, lies heap.objects us n x.0 (subst Q (sym w) (subst P e s.laid_out)) x.1)
 
 -- an object of a heap that has a word at i, in its arena
-pub word_found : (heap : Content) (ws us : List ℕ) (units capacity n i : ℕ) → IsSound ws units capacity → record { objects = objects_of ws; units = units } ≡ heap → us ≡ ws → i < length (words_at heap.objects n) → (o : Entity) × (object_at heap.objects n ≡ Some o) × LiesAt o us n × (i < length o.words)
+pub word_found : (heap : Content) (ws us : List ℕ) (units capacity n i : ℕ) → IsSound ws units capacity → record { objects = objects_of ws; units = Some units } ≡ heap → us ≡ ws → i < length (words_at heap.objects n) → (o : Entity) × (object_at heap.objects n ≡ Some o) × LiesAt o us n × (i < length o.words)
 word_found heap ws us units capacity n i s e w h =
     let x : (o : Entity) × (object_at heap.objects n ≡ Some o) = some_word (object_at heap.objects n) i h in
     let P : Content → Type 0 = λ c. AreLaidOut c.objects ws in

@@ -1,5 +1,5 @@
 -- The flags of the units at which objects begin.
-use Rattle.std.proofs.Common.{◌≡◌, ℕ, ◌-◌, ◌<◌, ◌≤◌, suc, zero, Bool, true, false, List, [], ◌∷◌, ◌++◌, None, length, get_or, replicate, is_some, sym, ◌∙◌, ap, refl, inl, inr, append_assoc, arith}
+use Rattle.std.proofs.Common.{◌≡◌, ℕ, ◌-◌, ◌<◌, ◌≤◌, suc, zero, Bool, true, false, List, [], ◌∷◌, ◌++◌, None, length, get_or, replicate, is_some, sym, ◌∙◌, ap, refl, inl, inr, append_assoc, arith, Some}
 use Rattle.std.proofs.lemmas.Bool.{cases_eq, cases_lt}
 use Rattle.std.proofs.lemmas.List.{append-nil, length-append, length-replicate, get_or_append_left, get_or-append_right, get_or-replicate, get_or_past, get_or_read}
 use Rattle.scw_heap.specs.declared.kind.Kind.{Kind}
@@ -64,7 +64,7 @@ start_at (o ∷ os) (suc k) =
     ]
 
 -- the flag that is read for a number
-pub start_of : (heap : Content) (ws : List ℕ) (starts : List Bool) (units capacity n : ℕ) → IsMarked (objects_of ws) starts units capacity → record { objects = objects_of ws; units = units } ≡ heap → 0 < n → get_or starts (n - 1) false ≡ is_some (object_at heap.objects n)
+pub start_of : (heap : Content) (ws : List ℕ) (starts : List Bool) (units capacity n : ℕ) → IsMarked (objects_of ws) starts units capacity → record { objects = objects_of ws; units = Some units } ≡ heap → 0 < n → get_or starts (n - 1) false ≡ is_some (object_at heap.objects n)
 start_of heap ws starts units capacity n m e h =
     let s : suc (n - 1) ≡ n = omega arith in
     ap (λ xs. get_or xs (n - 1) false) m.flags ∙
@@ -72,12 +72,12 @@ start_of heap ws starts units capacity n m e h =
     (ap (λ x. is_some (object_at (objects_of ws) x)) s ∙ ap (λ x. is_some (object_at x.objects n)) e))
 
 -- the same of the flag as the code reads it
-pub start_read : (heap : Content) (ws : List ℕ) (starts : List Bool) (units capacity n : ℕ) (b : Bool) → IsMarked (objects_of ws) starts units capacity → record { objects = objects_of ws; units = units } ≡ heap → 0 < n → n ≤ length starts → b ≡ get_or starts (n - 1) b → b ≡ is_some (object_at heap.objects n)
+pub start_read : (heap : Content) (ws : List ℕ) (starts : List Bool) (units capacity n : ℕ) (b : Bool) → IsMarked (objects_of ws) starts units capacity → record { objects = objects_of ws; units = Some units } ≡ heap → 0 < n → n ≤ length starts → b ≡ get_or starts (n - 1) b → b ≡ is_some (object_at heap.objects n)
 start_read heap ws starts units capacity n b m e h l r =
     get_or_read starts (n - 1) b (omega arith) r false ∙ start_of heap ws starts units capacity n m e h
 
 -- where no flag is read there is no object
-pub no_start : (heap : Content) (ws : List ℕ) (starts : List Bool) (units capacity n : ℕ) → IsMarked (objects_of ws) starts units capacity → record { objects = objects_of ws; units = units } ≡ heap → (0 < n → length starts < n) → is_some (object_at heap.objects n) ≡ false
+pub no_start : (heap : Content) (ws : List ℕ) (starts : List Bool) (units capacity n : ℕ) → IsMarked (objects_of ws) starts units capacity → record { objects = objects_of ws; units = Some units } ≡ heap → (0 < n → length starts < n) → is_some (object_at heap.objects n) ≡ false
 no_start heap ws starts units capacity n m e h =
     elim (cases_lt 0 n) [
       | inl l ↦
@@ -89,12 +89,12 @@ no_start heap ws starts units capacity n m e h =
     ]
 
 -- there is a flag for each unit of the heap in use
-pub length-marked : (heap : Content) (ws : List ℕ) (starts : List Bool) (units capacity : ℕ) → IsMarked (objects_of ws) starts units capacity → record { objects = objects_of ws; units = units } ≡ heap → length starts ≡ used heap.objects
+pub length-marked : (heap : Content) (ws : List ℕ) (starts : List Bool) (units capacity : ℕ) → IsMarked (objects_of ws) starts units capacity → record { objects = objects_of ws; units = Some units } ≡ heap → length starts ≡ used heap.objects
 length-marked heap ws starts units capacity m e =
     ap length m.flags ∙ (length-starts_of (objects_of ws) ∙ ap (λ x. used x.objects) e)
 
 -- the flags after a write, in the arena us
-pub marked-set : (heap : Content) (ws us : List ℕ) (starts : List Bool) (units capacity n i v : ℕ) → IsMarked (objects_of ws) starts units capacity → record { objects = objects_of ws; units = units } ≡ heap → AreLaidOut (with_word heap.objects n i v) us → IsMarked (objects_of us) starts units capacity
+pub marked-set : (heap : Content) (ws us : List ℕ) (starts : List Bool) (units capacity n i v : ℕ) → IsMarked (objects_of ws) starts units capacity → record { objects = objects_of ws; units = Some units } ≡ heap → AreLaidOut (with_word heap.objects n i v) us → IsMarked (objects_of us) starts units capacity
 marked-set heap ws us starts units capacity n i v m e h = record {
   flags = m.flags ∙
       (ap (λ x. starts_of x.objects) e ∙
@@ -104,7 +104,7 @@ marked-set heap ws us starts units capacity n i v m e h = record {
 }
 
 -- the flags with those of a fresh object, in the arena us
-pub marked-made : (heap : Content) (ws us : List ℕ) (starts flags : List Bool) (units capacity more : ℕ) (kind : Kind) (n : ℕ) → IsMarked (objects_of ws) starts units capacity → record { objects = objects_of ws; units = units } ≡ heap → AreLaidOut (heap.objects ++ zeroed kind n ∷ []) us → flags ≡ starts ++ (true ∷ replicate (units_of kind n - 1) false) → capacity ≤ more → IsMarked (objects_of us) flags units more
+pub marked-made : (heap : Content) (ws us : List ℕ) (starts flags : List Bool) (units capacity more : ℕ) (kind : Kind) (n : ℕ) → IsMarked (objects_of ws) starts units capacity → record { objects = objects_of ws; units = Some units } ≡ heap → AreLaidOut (heap.objects ++ zeroed kind n ∷ []) us → flags ≡ starts ++ (true ∷ replicate (units_of kind n - 1) false) → capacity ≤ more → IsMarked (objects_of us) flags units more
 marked-made heap ws us starts flags units capacity more kind n m e h f r =
     let zs : List Bool = replicate (units_of kind n - 1) false in
     let s : starts_of (zeroed kind n ∷ []) ≡ true ∷ zs =

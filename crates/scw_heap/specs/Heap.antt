@@ -1,7 +1,7 @@
--- A heap (JVMS 2.5.3): its objects in the order of making, each with its words, and the units that are reserved.
+-- A heap (JVMS 2.5.3): its objects in the order of making, each with its words, and how many units they may take.
 -- The standard leaves the layout open; the sizes are this machine's own. The code keeps all objects in one arena, of
 -- which nothing is said here.
-use Rattle.std.specs.Prelude.{ℕ, ◌+◌, ◌-◌, ◌*◌, ◌/◌, ◌^◌, ◌==◌, cond, List, [], ◌∷◌, Option, Some, None, length, slice_set, replicate, take}
+use Rattle.std.specs.Prelude.{ℕ, ◌+◌, ◌-◌, ◌*◌, ◌/◌, ◌^◌, ◌==◌, Bool, true, nat_le, nat_lt, cond, List, [], ◌∷◌, Option, Some, None, length, slice_set, replicate, take}
 use Rattle.scw_heap.specs.declared.kind.Kind.{Kind}
 use Rattle.scw_heap.specs.declared.kind.Kind.TheVariants.{Object, Text, Booleans, Chars, Ints, Longs, Refs}
 
@@ -12,7 +12,18 @@ pub record Entity : Type 0 where
 
 pub record Content : Type 0 where
   pub objects : List Entity
-  pub units : ℕ
+  -- the units that are reserved; None sets no limit
+  pub units : Option ℕ
+
+-- so many are within a limit, if there is one
+abbrev pub within : Option ℕ → ℕ → Bool
+within None n = true
+within (Some most) n = nat_le n most
+
+-- An object can have so many words: in a heap with a limit, fewer than 2^32.
+abbrev pub can_have : Option ℕ → ℕ → Bool
+can_have None count = true
+can_have (Some most) count = nat_lt count (2 ^ 32)
 
 -- the bytes of one word
 abbrev pub bytes_of : Kind → ℕ

@@ -1,8 +1,8 @@
 //! The heap itself.
 
-ghost use Rattle.std.specs.Prelude.{◌≡◌, ◌+◌, ◌-◌, ◌*◌, ◌^◌, ◌<◌, ◌≤◌, [], ◌∷◌, ◌++◌, ◌↔◌, true, false, length, slice_index, replicate, is_some, IfOk, OnOk, OnErr, IsErr, IfSome, IsSome, IsTrue};
+ghost use Rattle.std.specs.Prelude.{◌≡◌, ◌+◌, ◌-◌, ◌*◌, ◌^◌, ◌<◌, ◌≤◌, [], ◌∷◌, ◌++◌, ◌↔◌, true, false, length, slice_index, replicate, is_some, IfOk, OnOk, OnErr, IsErr, IfSome, IsSome, IsTrue, IsFalse};
 ghost use Rattle.std.specs.Vec.{vec_capacity, vec_len};
-ghost use Rattle.scw_heap.specs.Heap.{limit_of, object_at, units_of, used, with_word, words_at, zeroed};
+ghost use Rattle.scw_heap.specs.Heap.{can_have, limit_of, object_at, units_of, used, with_word, within, words_at, zeroed};
 ghost use Rattle.scw_heap.specs.Layout.{code_of};
 
 use crate::cell::Cell;
@@ -27,13 +27,14 @@ pub struct Heap {
 }
 
 impl Model for Heap {
+    ghost use Rattle.std.specs.Prelude.{Some};
     ghost use Rattle.std.specs.Vec.{vec_capacity};
     ghost use Rattle.scw_heap.specs.Heap.{Content};
     ghost use Rattle.scw_heap.specs.Layout.{IsMarked, IsSound, objects_of};
 
     ghost Value = { Content };
 
-    ghost view = { λ h. record { objects = objects_of h.words.items; units = h.units } };
+    ghost view = { λ h. record { objects = objects_of h.words.items; units = Some h.units } };
 
     ghost invariant = { λ h. IsSound h.words.items h.units (vec_capacity h.words) × IsMarked (objects_of h.words.items) h.starts.items h.units (vec_capacity h.starts) };
 }
@@ -45,7 +46,7 @@ impl Heap {
     ///
     /// `NoMemory` where memory runs out.
     pub fn new(alloc: Global, units: u32) -> Result<Heap, NoMemory>
-        ensures { IfOk result (λ heap. heap ≡ record { objects = []; units = units }) }
+        ensures { IfOk result (λ heap. heap ≡ record { objects = []; units = Some units }) }
     {
         let words = Vec::with_capacity(alloc, 2 * units as usize)?;
         let starts = Vec::with_capacity(alloc, units as usize)?;
@@ -59,7 +60,7 @@ impl Heap {
     /// The units in use.
     pub fn used(&self) -> u32
         ensures value { result ≡ used self.now.objects }
-        ensures within { result ≤ self.now.units }
+        ensures within { IfSome self.now.units (λ most. result ≤ most) }
     {
         (self.words.len() / 2) as u32
     }
@@ -74,21 +75,31 @@ impl Heap {
 
     /// The units that are reserved.
     pub fn units(&self) -> u32
-        ensures { result ≡ self.now.units }
+        ensures { self.now.units ≡ Some result }
     {
         self.units
+    }
+
+    /// Whether an object can have so many words.
+    pub fn can_have(&self, words: u64) -> bool
+        ensures value { result ≡ can_have self.now.units words }
+        ensures within { IsTrue result → words < 2 ^ 32 }
+    {
+        // It is read for the proof, to which it shows that there is a limit.
+        let _limit = self.units;
+        words < 0x1_0000_0000
     }
 
     /// Makes an object of the kind that has so many fields, elements or code units, all of them zero.
     ///
     /// # Errors
     ///
-    /// `Full` where fewer units are left than it takes; the heap is as before then.
+    /// `Full` exactly where the units in use and those that it takes are more than are reserved; the heap is as before then.
     pub fn make(&mut self, kind: Kind, fields: u32) -> Result<Ref, Full>
         ensures ok { OnOk result (self.new ≡ record self.old { objects = self.old.objects ++ zeroed kind fields ∷ [] }) }
         ensures number { IfOk result (λ made. made.0 ≡ 1 + used self.old.objects) }
         ensures made { IfOk result (λ made. object_at self.new.objects made.0 ≡ Some (zeroed kind fields)) }
-        ensures full { IsErr result ↔ (self.old.units < used self.old.objects + units_of kind fields) }
+        ensures full { IsErr result ↔ IsFalse (within self.old.units (used self.old.objects + units_of kind fields)) }
         ensures unchanged { OnErr result (self.new ≡ self.old) }
     {
         let used = self.words.len() as u64 / 2;

@@ -1,5 +1,5 @@
 -- A machine that is loaded: its program is that of the files, and its state the first one (JVMS 5.2, 2.5 and 2.6).
-use Rattle.std.specs.Prelude.{◌≡◌, ℕ, ◌+◌, ◌-◌, ◌/◌, ◌%◌, true, false, cond, List, [], ◌∷◌, map, replicate, IfSome, Err, nat_lt, slice_get}
+use Rattle.std.specs.Prelude.{◌≡◌, ℕ, ◌+◌, ◌-◌, ◌/◌, ◌%◌, true, false, cond, Option, Some, List, [], ◌∷◌, map, replicate, IfSome, Err, nat_lt, slice_get}
 use Rattle.std.specs.List.{flat_map}
 use Rattle.scw_classfile.specs.declared.class_file.ClassFile.{ClassFile}
 use Rattle.scw_classfile.specs.declared.class_file.FileOut.{FileOut}
@@ -36,8 +36,9 @@ zero_of kind.Int = Int 0
 zero_of kind.Long = Long 0
 zero_of kind.Reference = Reference 0
 
--- The launcher's frame acts, which has a stack of two places and one local variable. Each static field is zero.
-abbrev pub first_state : Program → ℕ → ℕ → ℕ → State
+-- The launcher's frame acts, which has a stack of two places and one local variable. Each static field is zero. The
+-- limits are those of the heap's units, of frames and of their words; None sets none.
+abbrev pub first_state : Program → Option ℕ → Option ℕ → Option ℕ → State
 first_state p heap frames words = record {
   frames = record {
     current = frame_for (record { 0 = 0 }) 2 (replicate 1 Unset);
@@ -51,7 +52,12 @@ first_state p heap frames words = record {
 }
 
 abbrev pub first : Program → ℕ → ℕ → ℕ → Running
-first p heap frames words = record { program = p; state = first_state p heap frames words; done = 0; live = true }
+first p heap frames words = record {
+  program = p;
+  state = first_state p (Some heap) (Some frames) (Some words);
+  done = 0;
+  live = true;
+}
 
 -- the machine is that of the classes whose files these are, which have the main object
 pub record IsLoaded (m : Running) (files : List FileOut) (main : List ℕ) (heap frames words : ℕ) : Type 0 where

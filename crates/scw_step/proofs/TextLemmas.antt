@@ -1,8 +1,8 @@
 -- Strings of the heap: what one unit that is put leaves, and what all of them come to.
-use Rattle.std.proofs.Common.{◌≢◌, IfOk, codes, ◌==◌, Result, Ok, Err, cond, IsSome, is_some, inl, inr, nat_lt, take, drop, drop-cons, add-one, replicate, append_assoc, length-append, ◌≡◌, ℕ, ◌+◌, ◌-◌, ◌%◌, ◌^◌, ◌<◌, ◌≤◌, suc, Bool, true, false, List, [], ◌∷◌, ◌++◌, Some, None, Option, IfSome, length, get_or, set, map, sym, ◌∙◌, ap, refl, arith}
-use Rattle.std.proofs.lemmas.Bool.{cases_eq, cases_lt, lt-ltb, le-ltb}
+use Rattle.std.proofs.Common.{◌≢◌, IfOk, codes, ◌==◌, Result, Ok, Err, cond, IsSome, is_some, inl, inr, take, drop, drop-cons, add-one, replicate, append_assoc, length-append, ◌≡◌, ℕ, ◌+◌, ◌-◌, ◌%◌, ◌^◌, ◌<◌, ◌≤◌, suc, Bool, true, false, List, [], ◌∷◌, ◌++◌, Some, None, Option, IfSome, length, get_or, set, map, sym, ◌∙◌, ap, refl, arith}
+use Rattle.std.proofs.lemmas.Bool.{cases_eq}
 use Rattle.std.proofs.lemmas.List.{take_all, length-replicate, length-drop, length-take, get_or-drop, get_or-take, drop_all, set_at, length-set, length-map, get_or-map}
-use Rattle.scw_heap.specs.Heap.{zeroed, units_of, used, size_of, Content, Entity, object_at, with_word, with_word_in, words_in, words_at, limit_of}
+use Rattle.scw_heap.specs.Heap.{can_have, within, zeroed, units_of, used, size_of, Content, Entity, object_at, with_word, with_word_in, words_in, words_at, limit_of}
 use Rattle.scw_heap.specs.declared.kind.Kind.{Kind}
 use Rattle.scw_heap.specs.declared.kind.Kind.TheVariants.{Object, Text, Booleans, Chars, Ints, Longs, Refs}
 use Rattle.scw_heap.proofs.LayoutLemmas.{object_at-next, with_word-first, with_word-next}
@@ -10,7 +10,7 @@ use Rattle.scw_heap.proofs.HeapLemmas.{object_at-made, object_at-made_other, obj
 use Rattle.scw_step.specs.declared.state.State.{State}
 use Rattle.scw_step.specs.declared.stop.Stop.{Stop}
 use Rattle.scw_step.specs.declared.stop.Stop.TheVariants.{HeapFull}
-use Rattle.scw_step.specs.StateStep.{Gives, making, with_object}
+use Rattle.scw_step.specs.StateStep.{Gives, making, provided, with_object}
 use Rattle.scw_step.specs.TextStep.{shown_in, beginning, making_text, with_text, part, text_in, text_of, is_text, put_unit, putting, unit_of}
 
 -- ---- an object
@@ -114,7 +114,7 @@ putting-append (u ∷ us) vs h r i =
 
 -- ---- a new string
 
-heap_of : List Entity → Kind → List ℕ → ℕ → Content
+heap_of : List Entity → Kind → List ℕ → Option ℕ → Content
 heap_of os k ws n = record { objects = os ++ record { kind = k; words = ws } ∷ []; units = n }
 
 -- a word of the last object
@@ -127,7 +127,7 @@ with_word-last (p ∷ os) o i v =
     ap (λ xs. p ∷ xs) (ap (λ n. with_word (os ++ o ∷ []) n i v) d ∙ with_word-last os o i v)
 
 -- units that are put behind others in the last object, where zeros were
-putting-last : (us pre : List ℕ) (os : List Entity) (k : Kind) (n i : ℕ) → length pre ≡ i → putting (1 + used os) i us (heap_of os k (pre ++ replicate (length us) 0) n) ≡ heap_of os k (pre ++ us) n
+putting-last : (us pre : List ℕ) (os : List Entity) (k : Kind) (n : Option ℕ) (i : ℕ) → length pre ≡ i → putting (1 + used os) i us (heap_of os k (pre ++ replicate (length us) 0) n) ≡ heap_of os k (pre ++ us) n
 unfolding putting put_unit heap_of
 putting-last [] pre os k n i e = refl
 putting-last (u ∷ us) pre os k n i e =
@@ -175,15 +175,15 @@ pub record IsMade (k : Kind) (n r : ℕ) (s m : State) : Type 0 where
   pub number : r ≡ 1 + used s.heap.objects
   pub made : m ≡ with_object k n s
 
-made_by : (b : Bool) (k : Kind) (n r : ℕ) (s m : State) → cond {A = Result (ℕ × State) Stop} b (Err (HeapFull (units_of k n))) (Ok (1 + used s.heap.objects, with_object k n s)) ≡ Ok (r, m) → IsMade k n r s m
-made_by true k n r s m q = absurd (cc)
-made_by false k n r s m q =
+made_by : (b : Bool) (k : Kind) (n r : ℕ) (s m : State) → provided {A = ℕ × State} b (HeapFull (units_of k n)) (Ok (1 + used s.heap.objects, with_object k n s)) ≡ Ok (r, m) → IsMade k n r s m
+made_by false k n r s m q = absurd (cc)
+made_by true k n r s m q =
     let p : ◌≡◌ {A = ℕ × State} (1 + used s.heap.objects, with_object k n s) (r, m) = cc in
     record { number = sym (ap (λ x. x.0) p); made = sym (ap (λ x. x.1) p) }
 
 pub making-made : (k : Kind) (n r : ℕ) (s m : State) → making k n s ≡ Ok (r, m) → IsMade k n r s m
 unfolding making
-making-made k n r s m e = made_by (nat_lt s.heap.units (used s.heap.objects + units_of k n)) k n r s m e
+making-made k n r s m e = made_by (within s.heap.units (used s.heap.objects + units_of k n)) k n r s m e
 
 -- it is at its number
 pub object_at-IsMade : (k : Kind) (n r : ℕ) (s m : State) → IsMade k n r s m → object_at m.heap.objects r ≡ Some (zeroed k n)
@@ -213,18 +213,15 @@ text_in-IsMade_other k n r a s m h there =
 -- ---- a string that is made
 
 pub record IsBegun (n r : ℕ) (s m : State) : Type 0 where
-  pub short : n < 2 ^ 32
   pub made : IsMade Text n r s m
 
-refused : {C : Type 0} (u : Stop) (r : ℕ) (m : State) → ◌≡◌ {A = Result (ℕ × State) Stop} (Err u) (Ok (r, m)) → C
-refused u r m q = absurd (cc)
+begun_by : (b : Bool) (n r : ℕ) (s m : State) → provided b (HeapFull (units_of Text n)) (making Text n s) ≡ Ok (r, m) → IsBegun n r s m
+begun_by false n r s m q = absurd (cc)
+begun_by true n r s m q = record { made = making-made Text n r s m q }
 
 pub beginning-begun : (n r : ℕ) (s m : State) → beginning n s ≡ Ok (r, m) → IsBegun n r s m
 unfolding beginning
-beginning-begun n r s m e = elim (cases_lt n (2 ^ 32)) [
-  | inl l ↦ record { short = l; made = making-made Text n r s m (rw (lt-ltb n (2 ^ 32) l) at e) }
-  | inr l ↦ refused (HeapFull (units_of Text n)) r m (rw (le-ltb n (2 ^ 32) l) at e)
-]
+beginning-begun n r s m e = begun_by (can_have s.heap.units n) n r s m e
 
 -- its units are zero at first
 pub length-IsMade : (n r : ℕ) (s m : State) → IsMade Text n r s m → length (text_in r m.heap) ≡ n

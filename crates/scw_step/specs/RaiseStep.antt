@@ -1,7 +1,7 @@
 -- The exceptions that the machine makes itself: JVMS 2.10 and 6.5. Their messages are the machine's own.
-use Rattle.std.specs.Prelude.{ℕ, ◌+◌, Option, Some, None, Result, Ok, Err, List, length, codes, nat_lt, cond}
+use Rattle.std.specs.Prelude.{ℕ, ◌+◌, Option, Some, None, Result, Ok, List, length, codes}
 use Rattle.std.specs.Int.{w32, cast_signed}
-use Rattle.scw_heap.specs.Heap.{units_of, used}
+use Rattle.scw_heap.specs.Heap.{units_of, used, within}
 use Rattle.scw_heap.specs.declared.kind.Kind.TheVariants as made
 use Rattle.scw_value.specs.Text.{number_text}
 use Rattle.scw_step.specs.declared.event.Event.{Event}
@@ -12,7 +12,7 @@ use Rattle.scw_step.specs.declared.stop.Fault.TheVariants as fault
 use Rattle.scw_step.specs.declared.stop.Stop.{Stop}
 use Rattle.scw_step.specs.declared.stop.Stop.TheVariants.{HeapFull}
 use Rattle.scw_step.specs.HeapStep.{with_word_at}
-use Rattle.scw_step.specs.StateStep.{and_next, making}
+use Rattle.scw_step.specs.StateStep.{and_next, making, provided}
 use Rattle.scw_step.specs.TextStep.{making_text}
 use Rattle.scw_step.specs.UnwindStep.{unwinding}
 
@@ -46,7 +46,7 @@ units_for class units = units_of made.Text units + units_of (made.Object class) 
 -- the heap has room for an exception of the class and a message of so many units
 abbrev pub room_for : ℕ → ℕ → State → Result (Unit {0}) Stop
 room_for class units s =
-    cond (nat_lt s.heap.units (used s.heap.objects + units_for class units)) (Err (HeapFull (units_for class units))) (Ok tt)
+    provided (within s.heap.units (used s.heap.objects + units_for class units)) (HeapFull (units_for class units)) (Ok tt)
 
 unfoldable pub with_message : ℕ → ℕ → State → Result (ℕ × State) Stop
 with_message class m s = and_next (making (made.Object class) 1 s) (λ e. Ok (e.0, with_word_at e.0 0 m e.1))

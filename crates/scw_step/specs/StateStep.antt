@@ -1,6 +1,6 @@
 -- What instructions take from a state and leave in it, and why they stop.
-use Rattle.std.specs.Prelude.{◌≡◌, ℕ, ◌+◌, ◌%◌, ◌^◌, Bool, true, false, cond, [], ◌∷◌, ◌++◌, length, Option, Some, None, Result, Ok, Err, nat_lt, ◌==◌}
-use Rattle.scw_heap.specs.Heap.{Content, Entity, object_at, used, units_of, zeroed}
+use Rattle.std.specs.Prelude.{◌≡◌, ℕ, ◌+◌, ◌%◌, ◌^◌, Bool, true, false, cond, [], ◌∷◌, ◌++◌, length, Option, Some, None, Result, Ok, Err, ◌==◌}
+use Rattle.scw_heap.specs.Heap.{Content, Entity, object_at, used, units_of, within, zeroed}
 use Rattle.scw_heap.specs.declared.kind.Kind.{Kind}
 use Rattle.scw_step.specs.declared.object.Shape.{Shape}
 use Rattle.scw_step.specs.declared.state.State.{State}
@@ -102,9 +102,11 @@ word_of (Reference r) = r
 abbrev pub with_object : Kind → ℕ → State → State
 with_object k n s = record s { heap = record s.heap { objects = s.heap.objects ++ zeroed k n ∷ [] } }
 
--- a new object, and its number
+-- a new object, and its number; a heap without a limit has room for each
 unfoldable pub making : Kind → ℕ → State → Result (ℕ × State) Stop
-making k n s = cond (nat_lt s.heap.units (used s.heap.objects + units_of k n)) (Err (HeapFull (units_of k n))) (Ok (1 + used s.heap.objects, with_object k n s))
+making k n s =
+    provided (within s.heap.units (used s.heap.objects + units_of k n)) (HeapFull (units_of k n))
+    (Ok (1 + used s.heap.objects, with_object k n s))
 
 -- the stack has room for one more place
 unfoldable pub roomy : State → Bool

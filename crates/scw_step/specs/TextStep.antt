@@ -1,12 +1,12 @@
 -- Strings of the heap, which are texts of UTF-16 units (JVMS 2.5.3 and 5.1), and the making of one.
-use Rattle.std.specs.Prelude.{ℕ, ◌+◌, ◌%◌, ◌^◌, Bool, true, false, cond, List, [], ◌∷◌, ◌++◌, length, drop, take, map, replicate, Option, Some, None, Result, Ok, Err, nat_lt, ◌==◌, codes}
-use Rattle.scw_heap.specs.Heap.{Content, Entity, object_at, units_of, with_word}
+use Rattle.std.specs.Prelude.{ℕ, ◌+◌, ◌%◌, ◌^◌, Bool, true, false, cond, List, [], ◌∷◌, ◌++◌, length, drop, take, map, replicate, Option, Some, None, Result, Ok, Err, ◌==◌, codes}
+use Rattle.scw_heap.specs.Heap.{Content, Entity, can_have, object_at, units_of, with_word}
 use Rattle.scw_heap.specs.declared.kind.Kind.{Kind}
 use Rattle.scw_heap.specs.declared.kind.Kind.TheVariants.{Object, Text, Booleans, Chars, Ints, Longs, Refs}
 use Rattle.scw_step.specs.declared.state.State.{State}
 use Rattle.scw_step.specs.declared.stop.Stop.{Stop}
 use Rattle.scw_step.specs.declared.stop.Stop.TheVariants.{Undefined, HeapFull}
-use Rattle.scw_step.specs.StateStep.{and_next, making, shape_at}
+use Rattle.scw_step.specs.StateStep.{and_next, making, provided, shape_at}
 
 abbrev pub is_text : Kind → Bool
 is_text (Object class) = false
@@ -55,9 +55,9 @@ dotted unit = cond (unit == 0x2f) 0x2e unit
 abbrev pub with_text : List ℕ → State → State
 with_text text s = record s { heap = record s.heap { objects = s.heap.objects ++ record { kind = Text; words = text } ∷ [] } }
 
--- a string of so many units, all zero, and its number; none has 2^32 units
+-- a string of so many units, all zero, and its number; a heap with a limit has no string of 2^32 units or more
 unfoldable pub beginning : ℕ → State → Result (ℕ × State) Stop
-beginning n s = cond (nat_lt n (2 ^ 32)) (making Text n s) (Err (HeapFull (units_of Text n)))
+beginning n s = provided (can_have s.heap.units n) (HeapFull (units_of Text n)) (making Text n s)
 
 -- a new string, and its number
 unfoldable pub making_text : List ℕ → State → Result (ℕ × State) Stop

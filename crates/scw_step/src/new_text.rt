@@ -23,7 +23,7 @@ pub fn begin(state: &mut State, units: u64) -> Result<u64, Stop>
     ensures short { OnOk result (units < 2 ^ 32) }
     ensures room { IfOk result (λ r. length (text_in r state.new.heap) ≡ units) }
 {
-    if units < 0x1_0000_0000 {
+    if state.heap.can_have(units) {
         make(state, Kind::Text, units as u32)
     } else {
         Err(Stop::HeapFull(1 + units / 8 + (units % 8 + 7) / 8))

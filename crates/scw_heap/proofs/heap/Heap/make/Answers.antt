@@ -1,5 +1,6 @@
 use Rattle.std.proofs.Common.{◌≡◌, ℕ, ◌+◌, ◌-◌, ◌*◌, ◌/◌, ◌++◌, ◌∷◌, [], replicate, List, length, length-append, refl, ◌∙◌, ap, arith}
 use Rattle.std.proofs.lemmas.List.{length-replicate}
+use Rattle.std.proofs.lemmas.Bool.{leb-false, lt-leb}
 use Rattle.scw_heap.specs.Heap.{units_of, used, zeroed}
 use Rattle.scw_heap.specs.Layout.{code_of, AreLaidOut}
 use Rattle.scw_heap.proofs.LayoutLemmas.{objects_of-laid_out}
@@ -11,7 +12,7 @@ use Rattle.scw_heap.proofs.heap.Heap.make.Goals as goal
 pub returns-then-self-used-clause-full : goal.returns-then-self-used-clause-full
 returns-then-self-used-clause-full c =
     let u = used_in _ _ _ _ c.self.invariant.0 c.self.view_is in
-    (λ _. omega (arith, c.if-self-used.true), λ _. refl)
+    (λ _. rw (← u.1) (lt-leb _ _ (omega (arith, c.if-self-used.true))), λ _. refl)
 
 pub append-requires : goal.append-requires
 append-requires c =
@@ -61,4 +62,4 @@ returns-clause-number c =
 pub returns-clause-full : goal.returns-clause-full
 returns-clause-full c =
     let u = used_in _ _ _ _ c.self.invariant.0 c.self.view_is in
-    (λ e. absurd (cc), λ l. absurd (omega arith))
+    (λ e. absurd (cc), λ l. absurd (omega (arith, leb-false _ _ (rw (← u.1) at l))))
