@@ -2,3 +2,4 @@ pub mod OutputLemmas
 pub mod RunLemmas
 pub mod LoadLemmas
 pub mod TellLemmas
+pub mod UnlimitedLemmas

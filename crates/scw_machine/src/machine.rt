@@ -6,6 +6,7 @@ ghost use Rattle.scw_outside.specs.Causes.{HasCause, Rose};
 ghost use Rattle.scw_outside.specs.Puts.{TookPart};
 ghost use Rattle.scw_machine.specs.Tell.{told};
 ghost use Rattle.scw_machine.specs.Run.{Came, Ran, end_of};
+ghost use Rattle.scw_machine.specs.Unlimited.{RanUnlimited};
 ghost use Rattle.scw_machine.specs.Row.{Closed, rows_of};
 ghost use Rattle.scw_machine.specs.declared.end.End.TheVariants.{Steps, SinkFault};
 ghost use Rattle.scw_machine.specs.declared.end.Turn.TheVariants.{Done};
@@ -68,6 +69,7 @@ impl Machine {
         requires live { self.old.live ≡ true }
         requires within { self.old.done + 1 < 2 ^ 64 }
         ensures ran { Ran (end_of result) 1 self.old self.new (O.taken out.old) (O.taken out.new) (O.room out.old) }
+        ensures unlimited { RanUnlimited (end_of result) 1 self.old self.new (O.taken out.old) (O.taken out.new) (O.room out.old) }
         ensures on { result ≢ Done Steps }
         ensures later { O.fault_count out.old ≤ O.fault_count out.new }
         ensures cause { result ≡ Done SinkFault → Rose (O.fault_count out.old) (O.fault_count out.new) }
@@ -78,11 +80,13 @@ impl Machine {
         }
     }
 
-    /// Does so many rows, or those before the run is over, and puts all that they say.
+    /// Does so many rows, or those before the run is over, and puts all that they say. They are the rows of the run without
+    /// limits from the same state: a limit ends a run, and changes nothing before.
     pub fn run<O: Sink>(&mut self, out: &mut O, steps: u64) -> End
         requires live { self.old.live ≡ true }
         requires within { self.old.done + steps < 2 ^ 64 }
         ensures ran { Ran result steps self.old self.new (O.taken out.old) (O.taken out.new) (O.room out.old) }
+        ensures unlimited { RanUnlimited result steps self.old self.new (O.taken out.old) (O.taken out.new) (O.room out.old) }
         ensures later { O.fault_count out.old ≤ O.fault_count out.new }
         ensures cause { result ≡ SinkFault → Rose (O.fault_count out.old) (O.fault_count out.new) }
     {

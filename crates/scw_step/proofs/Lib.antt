@@ -2,3 +2,8 @@ pub mod UnwindLemmas
 pub mod TextLemmas
 pub mod BoxLemmas
 pub mod StringLemmas
+pub mod FollowLemmas
+pub mod FrameFollowLemmas
+pub mod HeapFollowLemmas
+pub mod BuiltInFollowLemmas
+pub mod StepFollowLemmas

@@ -11,3 +11,4 @@ pub mod CallStep
 pub mod UnwindStep
 pub mod RaiseStep
 pub mod Step
+pub mod Unlimited
