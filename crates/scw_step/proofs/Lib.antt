@@ -7,3 +7,4 @@ pub mod FrameFollowLemmas
 pub mod HeapFollowLemmas
 pub mod BuiltInFollowLemmas
 pub mod StepFollowLemmas
+pub mod PlainLemmas

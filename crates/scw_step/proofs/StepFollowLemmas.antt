@@ -22,13 +22,14 @@ use Rattle.scw_step.specs.declared.stop.Stop.TheVariants.{Undefined, Throws, Thr
 use Rattle.scw_step.specs.CallStep.{calling_method, calling_special, calling_virtual, class_of, entering, entering_method, fetched, first_caller, fits, left, receiver, resuming, returned, returning, returning_value, running, running_built_in, selecting, target_of, went_on}
 use Rattle.scw_step.specs.HeapStep.{array_kind, with_word_at}
 use Rattle.scw_step.specs.RaiseStep.{class_of_fault, exception, exception_by, message_of, raising, room_for, with_message}
-use Rattle.scw_step.specs.StateStep.{and_next, calm, or_undefined, shape_at, with_frames}
+use Rattle.scw_step.specs.StateStep.{and_next, calm, shape_at, with_frames}
 use Rattle.scw_step.specs.Step.{divided_into, executing, going_on, jumped, jumping, operating, settled, stepping}
 use Rattle.scw_step.specs.TextStep.{making_text}
 use Rattle.scw_step.specs.Unlimited.{unlimited, unlimited_frames}
 use Rattle.scw_step.specs.UnwindStep.{caught, unwinding, unwound, with_unwound}
 use Rattle.scw_step.proofs.FrameFollowLemmas.{Mirrors, none, some, maybe_unlimited, computing-mirrors, dividing_ints-mirrors, dividing_longs-mirrors, jumping-mirrors}
-use Rattle.scw_step.proofs.FollowLemmas.{Follows, beside, done, stops, full, crowded, follows-next, follows-same, follows-provided, follows-cond, follows-full, follows-crowded, framed-follows, value_taken-follows, giving-follows, making-follows, making_text-follows}
+use Rattle.scw_step.proofs.PlainLemmas.{shape_at-plain}
+use Rattle.scw_step.proofs.FollowLemmas.{follows-option, Free, goes, ends, free-of, Follows, beside, done, stops, full, crowded, follows-next, follows-same, follows-provided, follows-cond, follows-full, follows-crowded, framed-follows, value_taken-follows, giving-follows, making-follows, making_text-follows}
 use Rattle.scw_step.proofs.HeapFollowLemmas.{getting_field-follows, putting_field-follows, getting_static-follows, putting_static-follows, loading_element-follows, storing_element-follows, taking_length-follows, making_object-follows, pushing_text-follows, making_array-follows, casting-follows, testing-follows, throwing-follows}
 use Rattle.scw_step.proofs.BuiltInFollowLemmas.{built_in-follows}
 
@@ -36,12 +37,12 @@ use Rattle.scw_step.proofs.BuiltInFollowLemmas.{built_in-follows}
 
 entering_method-follows : (m : MethodNumber) (method : Method) (s : State) → Follows unlimited (entering_method m method s) (entering_method m method (unlimited s))
 entering_method-follows m method s =
-    follows-provided (fits method.arguments method.locals s.frames) _ _ _ (follows-crowded _ _ _
+    follows-provided (fits method.arguments method.locals s.frames) _ _ _ tt (follows-crowded _ _ _
     (done (with_frames s (entered m method.stack method.locals (length method.arguments) s.frames))))
 
 entering-follows : (p : Program) (m : MethodNumber) (s : State) → Follows unlimited (entering p m s) (entering p m (unlimited s))
 unfolding entering
-entering-follows p m s = follows-next _ _ _ _ (follows-same (or_undefined (slice_get p.methods m.0))) (λ method. entering_method-follows m method s)
+entering-follows p m s = follows-next _ _ _ _ (follows-option (slice_get p.methods m.0)) (λ method. entering_method-follows m method s)
 
 went_on-follows : (r r' : Result State Stop) → Follows unlimited r r' → Follows beside (went_on r) (went_on r')
 went_on-follows r r' f = follows-next _ _ _ _ f (λ s. done (On, s))
@@ -58,26 +59,26 @@ running-follows p next (target.BuiltIn b) s = running_built_in-follows p next b 
 calling_method-follows : (p : Program) (m : MethodNumber) (method : Method) (s : State) → Follows beside (calling_method p m method s) (calling_method p m method (unlimited s))
 unfolding receiver
 calling_method-follows p m method s =
-    follows-provided (are_arguments method.arguments s.frames) _ _ _
-    (follows-next _ _ _ _ (follows-same (or_undefined (receiver (length method.arguments) s.frames))) (λ r.
-    follows-cond (r == 0) _ _ _ _ (stops (Throws fault.NullPointer)) (went_on-follows _ _ (entering-follows p m s))))
+    follows-provided (are_arguments method.arguments s.frames) _ _ _ tt
+    (follows-next _ _ _ _ (follows-option (receiver (length method.arguments) s.frames)) (λ r.
+    follows-cond (r == 0) _ _ _ _ (stops (Throws fault.NullPointer) tt) (went_on-follows _ _ (entering-follows p m s))))
 
 calling_special-follows : (p : Program) (next : ℕ) (t : Target) (s : State) → Follows beside (calling_special p next t s) (calling_special p next t (unlimited s))
 unfolding calling_special
-calling_special-follows p next (target.Code m) s = follows-next _ _ _ _ (follows-same (or_undefined (slice_get p.methods m.0))) (λ method. calling_method-follows p m method s)
+calling_special-follows p next (target.Code m) s = follows-next _ _ _ _ (follows-option (slice_get p.methods m.0)) (λ method. calling_method-follows p m method s)
 calling_special-follows p next (target.BuiltIn b) s = running_built_in-follows p next b s
 
 selecting-follows : (p : Program) (next selector : ℕ) (kinds : List ValueKind) (s : State) → Follows beside (selecting p next selector kinds s) (selecting p next selector kinds (unlimited s))
 unfolding receiver shape_at
 selecting-follows p next selector kinds s =
-    follows-provided (are_arguments kinds s.frames) _ _ _
-    (follows-next _ _ _ _ (follows-same (or_undefined (receiver (length kinds) s.frames))) (λ r. follows-next _ _ _ _ (follows-same (shape_at r s.heap)) (λ x.
-    follows-next _ _ _ _ (follows-same (or_undefined (target_of p (class_of x.kind) selector))) (λ t. running-follows p next t s))))
+    follows-provided (are_arguments kinds s.frames) _ _ _ tt
+    (follows-next _ _ _ _ (follows-option (receiver (length kinds) s.frames)) (λ r. follows-next _ _ _ _ (follows-same (shape_at-plain r s.heap)) (λ x.
+    follows-next _ _ _ _ (follows-option (target_of p (class_of x.kind) selector)) (λ t. running-follows p next t s))))
 
 calling_virtual-follows : (p : Program) (next selector : ℕ) (s : State) → Follows beside (calling_virtual p next selector s) (calling_virtual p next selector (unlimited s))
 unfolding calling_virtual
 calling_virtual-follows p next selector s =
-    follows-next _ _ _ _ (follows-same (or_undefined (slice_get p.selectors selector))) (λ kinds. selecting-follows p next selector kinds s)
+    follows-next _ _ _ _ (follows-option (slice_get p.selectors selector)) (λ kinds. selecting-follows p next selector kinds s)
 
 -- ---- returns
 
@@ -91,7 +92,7 @@ left-mirrors c = first_caller-mirrors c.callers c
 
 resuming-follows : (p : Program) (s : State) → Follows unlimited (resuming p s) (resuming p (unlimited s))
 unfolding resuming fetched
-resuming-follows p s = follows-next _ _ _ _ (follows-same (or_undefined (fetched p s.frames))) (λ i. done (with_frames s (placed i.next s.frames)))
+resuming-follows p s = follows-next _ _ _ _ (follows-option (fetched p s.frames)) (λ i. done (with_frames s (placed i.next s.frames)))
 
 returned-follows : (p : Program) (s : State) (o o' : Option Calls) → Mirrors unlimited_frames o o' → Follows beside (returned p s o) (returned p (unlimited s) o')
 returned-follows p s o o' none = done (Ended, s)
@@ -114,7 +115,7 @@ caught-follows r (Some at) s = went_on-follows _ _ (giving-follows (Reference r)
 unwinding-follows : (p : Program) (r : ℕ) (s : State) → Follows beside (unwinding p r s) (unwinding p r (unlimited s))
 unfolding unwinding shape_at
 unwinding-follows p r s =
-    follows-next _ _ _ _ (follows-same (shape_at r s.heap)) (λ x.
+    follows-next _ _ _ _ (follows-same (shape_at-plain r s.heap)) (λ x.
     let up = unwound p (class_of x.kind) s.frames.current s.frames.callers in
     caught-follows r up.0 (with_frames s (with_unwound up.1 s.frames)))
 
@@ -142,8 +143,8 @@ raising-follows p f s = follows-next _ _ _ _ (exception_by-follows (class_of_fau
 -- ---- instructions
 
 divided_into-follows : (s : State) (o o' : Option (Option Calls)) → Mirrors maybe_unlimited o o' → Follows unlimited (divided_into s o) (divided_into (unlimited s) o')
-divided_into-follows s o o' none = stops Undefined
-divided_into-follows s o o' (some None) = stops (Throws fault.DividedByZero)
+divided_into-follows s o o' none = stops Undefined tt
+divided_into-follows s o o' (some None) = stops (Throws fault.DividedByZero) tt
 divided_into-follows s o o' (some (Some c)) = done (with_frames s c)
 
 operating-follows : (p : Program) (o : Operation) (s : State) → Follows unlimited (operating p o s) (operating p o (unlimited s))
@@ -174,7 +175,7 @@ jumped-follows p o next s = went_on-follows _ _ (framed-follows s _ _ (jumping-m
 
 executing-follows : (p : Program) (o : Operation) (next : ℕ) (s : State) → Follows beside (executing p o next s) (executing p o next (unlimited s))
 unfolding executing
-executing-follows p op.Undefined next s = stops Undefined
+executing-follows p op.Undefined next s = stops Undefined tt
 executing-follows p (op.Jump target) next s = jumped-follows p (op.Jump target) next s
 executing-follows p (op.JumpIfZero k target) next s = jumped-follows p (op.JumpIfZero k target) next s
 executing-follows p (op.JumpIfInts k target) next s = jumped-follows p (op.JumpIfInts k target) next s
@@ -188,18 +189,26 @@ executing-follows p (op.CallSpecial t) next s = calling_special-follows p next t
 executing-follows p (op.CallVirtual x) next s = calling_virtual-follows p next x.0 s
 executing-follows p o next s = going_on-follows next _ _ (operating-follows p o s)
 
+settled-free : (p : Program) (s : State) (r : Result (Event × State) Stop) → Free beside r → Free beside (settled p (unlimited s) r)
+settled-free p s r (goes x) = goes x
+settled-free p s r (ends Undefined h) = ends Undefined tt
+settled-free p s r (ends (Throws f) h) = free-of (raising-follows p f (calm s))
+settled-free p s r (ends (ThrowsObject o) h) = free-of (unwinding-follows p o (calm s))
+settled-free p s r (ends (HeapFull n) h) = absurd h
+settled-free p s r (ends TooManyFrames h) = absurd h
+
 settled-follows : (p : Program) (s : State) (r r' : Result (Event × State) Stop) → Follows beside r r' → Follows beside (settled p s r) (settled p (unlimited s) r')
 settled-follows p s r r' (done x) = done x
-settled-follows p s r r' (stops Undefined) = stops Undefined
-settled-follows p s r r' (stops (Throws f)) = raising-follows p f (calm s)
-settled-follows p s r r' (stops (ThrowsObject o)) = unwinding-follows p o (calm s)
-settled-follows p s r r' (stops (HeapFull n)) = stops (HeapFull n)
-settled-follows p s r r' (stops TooManyFrames) = stops TooManyFrames
-settled-follows p s r r' (full n q) = full n (settled p (unlimited s) q)
-settled-follows p s r r' (crowded q) = crowded (settled p (unlimited s) q)
+settled-follows p s r r' (stops Undefined h) = stops Undefined tt
+settled-follows p s r r' (stops (Throws f) h) = raising-follows p f (calm s)
+settled-follows p s r r' (stops (ThrowsObject o) h) = unwinding-follows p o (calm s)
+settled-follows p s r r' (stops (HeapFull n) h) = absurd h
+settled-follows p s r r' (stops TooManyFrames h) = absurd h
+settled-follows p s r r' (full n q h) = full n (settled p (unlimited s) q) (settled-free p s q h)
+settled-follows p s r r' (crowded q h) = crowded (settled p (unlimited s) q) (settled-free p s q h)
 
 -- A step does the same without limits, unless a limit stops it.
 pub stepping-follows : (p : Program) (s : State) → Follows beside (stepping p s) (stepping p (unlimited s))
 unfolding stepping fetched
 stepping-follows p s =
-    follows-next _ _ _ _ (follows-same (or_undefined (fetched p s.frames))) (λ i. settled-follows p s _ _ (executing-follows p i.operation i.next s))
+    follows-next _ _ _ _ (follows-option (fetched p s.frames)) (λ i. settled-follows p s _ _ (executing-follows p i.operation i.next s))
