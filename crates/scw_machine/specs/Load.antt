@@ -1,5 +1,5 @@
 -- A machine that is loaded: its program is that of the files, and its state the first one (JVMS 5.2, 2.5 and 2.6).
-use Rattle.std.specs.Prelude.{◌≡◌, ℕ, ◌+◌, ◌-◌, ◌/◌, ◌%◌, true, false, cond, Option, Some, List, [], ◌∷◌, map, replicate, IfSome, Err, nat_lt, slice_get}
+use Rattle.std.specs.Prelude.{◌≡◌, ℕ, ◌+◌, ◌-◌, ◌/◌, ◌%◌, true, false, cond, Option, Some, List, [], ◌∷◌, map, replicate, IsSomeAnd, Err, nat_lt, slice_get}
 use Rattle.std.specs.List.{flat_map}
 use Rattle.scw_classfile.specs.declared.class_file.ClassFile.{ClassFile}
 use Rattle.scw_classfile.specs.declared.class_file.FileOut.{FileOut}
@@ -72,9 +72,9 @@ pub record HasNoMain (files : List FileOut) (main : List ℕ) : Type 0 where
   pub files_of : AreFilesOf classes files
   pub main_missing : has_main classes (units_of main) ≡ false
 
--- the file with the number is that of no class, for this cause
+-- there is a file with the number, and it is that of no class, for this cause
 abbrev pub IsBad : ℕ → ClassRefusal → List FileOut → Type 0
-IsBad n r files = IfSome (slice_get files n) (λ f. read_class f.bytes ≡ Err r)
+IsBad n r files = IsSomeAnd (slice_get files n) (λ f. read_class f.bytes ≡ Err r)
 
 -- what a fault in reading says of the file with the number, and of the files
 abbrev pub IsFaultOf : LoadFault → ℕ → FileOut → Type 0

@@ -118,7 +118,7 @@ heap_of : List Entity → Kind → List ℕ → Option ℕ → Content
 heap_of os k ws n = record { objects = os ++ record { kind = k; words = ws } ∷ []; units = n }
 
 -- a word of the last object
-with_word-last : (os : List Entity) (o : Entity) (i v : ℕ) → with_word (os ++ o ∷ []) (1 + used os) i v ≡ os ++ with_word_in o i v ∷ []
+pub with_word-last : (os : List Entity) (o : Entity) (i v : ℕ) → with_word (os ++ o ∷ []) (1 + used os) i v ≡ os ++ with_word_in o i v ∷ []
 with_word-last [] o i v = with_word-first o [] (1 + 0) i v (omega arith)
 with_word-last (p ∷ os) o i v =
     let k : 1 + used (p ∷ os) ≡ 1 → ⊥ = λ e. absurd (omega arith) in

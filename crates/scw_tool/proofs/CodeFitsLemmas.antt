@@ -32,7 +32,7 @@ use Rattle.scw_tool.specs.declared.tree.RunMethod.TheVariants.{Print}
 use Rattle.scw_tool.specs.declared.tree.Erased.{Erased}
 use Rattle.scw_tool.specs.declared.tree.Erased.TheVariants as erased
 use Rattle.scw_tool.specs.Instr.{code_of}
-use Rattle.scw_tool.specs.Names.{at}
+use Rattle.scw_link.specs.Names.{at}
 use Rattle.scw_tool.specs.Tree.{Tree, Trees, node, none, more}
 use Rattle.scw_tool.specs.Source.{Product, Sum, fits_product, literal_tree, text_tree, arithmetic_tree, joined_tree, call_print, product_tree_from, product_tree, sum_tree_from, sum_tree, main_tree}
 use Rattle.scw_tool.specs.Generate.{is_number, is_string, index_from, number_index, string_index, numbers_of, pool_with, type_of, text_code, op_code, second_type, code, all_code, main_code}

@@ -1,179 +1,216 @@
 -- The class file of a source that says a sum prints that sum, as the source does.
-use Rattle.std.proofs.Common.{◌≡◌, pos, ℕ, suc, ◌+◌, ◌-◌, ◌<◌, ◌≤◌, List, [], ◌∷◌, ◌++◌, length, refl, sym, ap, subst, ◌∙◌, arith, append-nil, IsTrue}
+use Rattle.std.proofs.Common.{◌≡◌, pos, ℕ, suc, ◌+◌, ◌<◌, ◌≤◌, List, [], ◌∷◌, ◌++◌, Option, None, Ok, refl, ap, subst, ◌∙◌, arith, append-nil, IsTrue}
+use Rattle.scw_value.specs.Text.{utf8}
 use Rattle.scw_classfile.specs.declared.class_file.ClassFile.{ClassFile}
+use Rattle.scw_heap.specs.Heap.{Entity, used}
+use Rattle.scw_heap.proofs.HeapLemmas.{used-append}
+use Rattle.scw_heap.specs.declared.kind.Kind.TheVariants as made
+use Rattle.scw_frame.specs.declared.operation.BuiltIn.TheVariants as built
+use Rattle.scw_frame.specs.declared.operation.Operation.TheVariants as op
+use Rattle.scw_frame.specs.declared.program.Target.TheVariants as target
+use Rattle.scw_frame.specs.declared.value.Value as word_type
+use Rattle.scw_frame.specs.declared.value.Value.TheVariants as word
+use Rattle.scw_step.specs.declared.event.Event.TheVariants as event
+use Rattle.scw_step.specs.declared.state.State as machine
+use Rattle.scw_step.specs.Step.{stepping}
+use Rattle.scw_machine.specs.Course.{Course, going, halted, returned, after_step, advance, course}
+use Rattle.scw_machine.specs.Load.{first_state as machine_first}
+use Rattle.scw_machine.specs.Output.{said_by}
 use Rattle.scw_tool.specs.declared.instr.Instr.{Instr}
 use Rattle.scw_tool.specs.declared.instr.Instr.TheVariants.{Invokestatic, Return}
-use Rattle.scw_tool.specs.declared.state.Word.TheVariants as word
-use Rattle.scw_tool.specs.declared.state.HeapObject.{HeapObject}
-use Rattle.scw_tool.specs.declared.state.HeapObject.TheVariants as object
-use Rattle.scw_tool.specs.declared.state.Machine.{Machine}
-use Rattle.scw_tool.specs.declared.operation.Operation.TheVariants as op
-use Rattle.scw_tool.specs.declared.operation.BuiltIn.TheVariants as built
 use Rattle.scw_tool.specs.declared.tree.Op.TheVariants.{Static}
 use Rattle.scw_tool.specs.declared.tree.RunMethod.TheVariants.{Print}
 use Rattle.scw_tool.specs.Tree.{Tree, none}
-use Rattle.scw_tool.specs.State.{unit_v, string_v}
-use Rattle.scw_tool.specs.Step.{wrote, operands, waits, returning, resume, step, steps, or_no_rule, noting, give, land_act}
+use Rattle.scw_tool.specs.State.{string_v}
+use Rattle.scw_tool.specs.Step.{operands, waits, returning, resume, step, steps}
 use Rattle.scw_tool.specs.Seen.{normal, seen, source_run, first_env, first_state}
-use Rattle.scw_tool.specs.Row.{on, says, with_text, or_stuck, says_bytes, row}
-use Rattle.scw_tool.specs.MachineRun.{Run, over, dead, turn, turns, machine_run, IsStuck}
-use Rattle.scw_tool.specs.MachineRun as run
-use Rattle.scw_tool.specs.Output.{bytes_in}
-use Rattle.scw_tool.specs.Generate.{code, pool_with, class_of, numbers_of, main_class}
+use Rattle.scw_tool.specs.MachineRun.{limited_run, machine_run}
+use Rattle.scw_tool.specs.Generate.{code, pool_with, class_of, numbers_of}
 use Rattle.scw_tool.specs.Source.{Sum, fits_sum, printed_line, main_tree}
 use Rattle.scw_tool.specs.Corresponds.{Corresponds}
-use Rattle.scw_tool.specs.CameTo.{EndsAt, RunsAt, SticksAt}
-use Rattle.scw_tool.proofs.MachineLaws.{over_later}
 use Rattle.scw_tool.proofs.SumLemmas.{Fits, parts_of}
 use Rattle.scw_tool.proofs.PoolLemmas.{numbers_has}
 use Rattle.scw_tool.proofs.CodeLemmas.{span, HasAt, has_all, has_front, has_back, span-append}
 use Rattle.scw_tool.proofs.CodeSize.{main_size}
-use Rattle.scw_tool.proofs.Means.{Pushed, here, rest, main_frame, instrs, row_at, one_turn, then_turns, alike_text}
-use Rattle.scw_tool.proofs.SumMeans.{DoesLine, line_does, line_bytes, line_tree}
-use Rattle.scw_tool.proofs.Whole.{both_end, launches, two}
+use Rattle.scw_tool.proofs.CourseLemmas.{advances, course_is}
+use Rattle.scw_tool.proofs.Launch.{launches, start, two}
+use Rattle.scw_tool.proofs.LinkLemmas.{P, program_is, launch_main, launch_return, main_site, main_linked, print_operation, unit_operation, return_operation}
+use Rattle.scw_tool.proofs.Means.{IsString, Pushed, Roomy, Rows, alike_text, at_main, called, here, launcher, one_row, state_of, then_rows}
+use Rattle.scw_tool.proofs.RowLemmas.{built-in-does, ends-does, made-there, print-does, return-does, roomy-from, row, said-text, unit-does, unit-made}
+use Rattle.scw_tool.proofs.SumMeans.{DoesLine, line_does, line_bytes, line_rows, line_rows-le, line_tree}
+use Rattle.scw_tool.proofs.Whole.{both_end}
 
 module _ (e : Sum) (fits : IsTrue (fits_sum e)) where
-  abbrev numbers : List ℕ
+  abbrev pub numbers : List ℕ
   numbers = numbers_of e
 
-  abbrev body : Tree
+  abbrev pub body : Tree
   body = main_tree e
 
   abbrev pub K : List ClassFile
   K = class_of e ∷ []
 
-  abbrev line : List ℕ
+  abbrev pub line : List ℕ
   line = printed_line e
 
-  parts : Fits e
+  pub parts : Fits e
   parts = parts_of e fits
 
-  pub does : DoesLine numbers body e
-  does = line_does numbers body e parts (numbers_has e)
+  -- the rows before the last one, and all
+  abbrev pub before_last : ℕ
+  before_last = 11 + (line_rows e + (1 + (1 + 1)))
+
+  abbrev pub rows : ℕ
+  rows = before_last + 1
+
+  pub few_rows : rows ≤ 50000000
+  few_rows = let f = line_rows-le e parts in let c = parts.count in omega (arith, f, c)
+
+  -- ---- the machine, with these limits
+
+  module _ (units frames words : Option ℕ) (room : Roomy units frames words) where
+    pub does : DoesLine numbers body units frames words room e
+    does = line_does numbers body units frames words room e parts (numbers_has e)
+
+    abbrev pub own : List Instr
+    own = code (pool_with numbers) (line_tree e)
+
+    abbrev pub tail : List Instr
+    tail = Invokestatic (pos 20) ∷ Invokestatic (pos 40) ∷ []
+
+    abbrev Has : ℕ → List Instr → Type 0
+    Has pc is = HasAt (main_site numbers body) (main_linked numbers body) pc is
+
+    has_whole : Has 0 (((own ++ []) ++ tail) ++ Return ∷ [])
+    has_whole = has_all (main_site numbers body) (((own ++ []) ++ tail) ++ Return ∷ [])
+
+    has_body : Has 0 ((own ++ []) ++ tail)
+    has_body = has_front (main_site numbers body) (main_linked numbers body) 0 ((own ++ []) ++ tail) (Return ∷ []) has_whole
+
+    pub has_own : Has 0 own
+    has_own = subst (Has 0) (append-nil own) (has_front (main_site numbers body) (main_linked numbers body) 0 (own ++ []) tail has_body)
+
+    abbrev pub q : ℕ
+    q = 0 + span own
+
+    own_span : span (own ++ []) ≡ span own
+    own_span = ap span (append-nil own)
+
+    has_tail : Has q tail
+    has_tail = subst (λ k. Has k tail) (ap (λ k. 0 + k) own_span) (has_back (main_site numbers body) (main_linked numbers body) 0 (own ++ []) tail has_body)
+
+    has_return : Has (q + 3 + 3) (Return ∷ [])
+    has_return =
+        let s = span-append (own ++ []) tail in
+        let k : 0 + span ((own ++ []) ++ tail) ≡ q + 3 + 3 = omega (arith, s, own_span) in
+        subst (λ n. Has n (Return ∷ [])) k (has_back (main_site numbers body) (main_linked numbers body) 0 ((own ++ []) ++ tail) (Return ∷ []) has_whole)
+
+    pub small : q + 9 < 65535
+    small = let m = main_size (pool_with numbers) e parts in omega (arith, m)
+
+    pub pushed : Pushed numbers body units frames words room own (string_v line) 0 [] two [] (line_rows e) 70
+    pushed = does.pushes.by 0 [] two [] has_own (omega (arith, small)) (omega arith) (omega arith)
+
+    pub text : IsString (two ++ pushed.made) pushed.w line
+    text = alike_text (two ++ pushed.made) (string_v line) pushed.w line pushed.alike refl
+
+    pub grown : used (two ++ pushed.made) ≤ 72
+    grown = let g = pushed.grown in omega (arith, used-append two pushed.made, g)
+
+    abbrev pub hs : List Entity
+    hs = two ++ pushed.made
+
+    abbrev pub hu : List Entity
+    hu = hs ++ record { kind = made.Object 6; words = [] } ∷ []
+
+    abbrev pub at : ℕ → List word_type.Value → List Entity → ℕ → machine.State
+    at pc st h u = here numbers body units frames words room pc st h u
+
+    abbrev pub at_print : machine.State
+    at_print = at q (pushed.w ∷ []) hs 0
+
+    abbrev pub at_unit : machine.State
+    at_unit = at (q + 3) [] hs 0
+
+    abbrev pub at_return : machine.State
+    at_return = at (q + 3 + 3) (word.Reference (1 + used hs) ∷ []) hu (1 + used hs)
+
+    abbrev pub at_end : machine.State
+    at_end = state_of numbers body units frames words room (launcher numbers body units frames words room 4) [] hu (1 + used hs)
+
+    abbrev Row : machine.State → machine.State → Type 0
+    Row s t = stepping (P numbers body) s ≡ Ok (event.On, t)
+
+    -- what is put is the line
+    said : said_by hs text.r ≡ line
+    said = said-text (record { objects = hs; units = None }) text.r line (text.text None) ∙ line_bytes e does.small
+
+    print_row : stepping (P numbers body) at_print ≡ Ok (event.Says text.r, at_unit)
+    print_row =
+        ap (λ w. stepping (P numbers body) (at q (w ∷ []) hs 0)) text.is
+        ∙ row (P numbers body) (at q (word.Reference text.r ∷ []) hs 0) _ _ (at_main numbers body units frames words room q (word.Reference text.r ∷ []) hs 0 (Invokestatic (pos 20)) (op.CallStatic (target.BuiltIn built.Print)) (omega (arith, small)) has_tail.0 (print_operation numbers body q))
+        (built-in-does (P numbers body) built.Print (q + 3) _ _ (event.Says text.r) (print-does (P numbers body) text.r line [] (at q [] hs 0) (text.text units)))
+
+    unit_row : Row at_unit at_return
+    unit_row =
+        called numbers body units frames words room (Invokestatic (pos 40)) (op.CallStatic (target.BuiltIn built.Unit)) (q + 3) 0 (1 + used hs) [] [] hs hu 0 (1 + used hs) refl (omega (arith, small)) has_tail.1.0 (unit_operation numbers body (q + 3))
+        (built-in-does (P numbers body) built.Unit (q + 3 + 3) _ _ event.On
+        (unit-does (P numbers body) at_unit (at (q + 3) [] hu (1 + used hs)) (1 + used hs) (roomy-from at_unit refl) (unit-made at_unit refl (made-there (made.Object 6) 0 at_unit (room.heap (used hs + 1) (omega (arith, grown))))) refl))
+
+    return_row : Row at_return at_end
+    return_row =
+        row (P numbers body) at_return _ _ (at_main numbers body units frames words room (q + 3 + 3) (word.Reference (1 + used hs) ∷ []) hu (1 + used hs) Return op.Return (omega (arith, small)) has_return.0 (return_operation numbers body (q + 3 + 3)))
+        (return-does (P numbers body) at_return (launcher numbers body units frames words room 3) [] (q + 3 + 3 + 1) _ refl (launch_main numbers body _ refl refl))
+
+    abbrev rows_to : ℕ → Course → Course → Type 0
+    rows_to j a b = Rows numbers body units frames words room j a b
+
+    said_row : rows_to 1 (going at_print []) (going at_unit line)
+    unfolding advances advance
+    said_row = ap (after_step at_print []) print_row ∙ ap (λ l. going at_unit l) said
+
+    last_row : rows_to 1 (going at_end line) (halted returned at_end line)
+    unfolding advances advance
+    last_row = ap (after_step at_end line) (row (P numbers body) at_end _ _ (launch_return numbers body at_end.frames refl refl) (ends-does (P numbers body) 5 at_end refl))
+
+    abbrev pub first : machine.State
+    first = start numbers body units frames words room
+
+    ends : rows_to before_last (going first []) (going at_end line)
+    ends =
+        then_rows numbers body units frames words room 11 (line_rows e + (1 + (1 + 1))) (going first []) (going (at 0 [] two 0) []) (going at_end line) (launches numbers body units frames words room)
+        (then_rows numbers body units frames words room (line_rows e) (1 + (1 + 1)) (going (at 0 [] two 0) []) (going at_print []) (going at_end line) pushed.rows
+        (then_rows numbers body units frames words room 1 (1 + 1) (going at_print []) (going at_unit line) (going at_end line) said_row
+        (then_rows numbers body units frames words room 1 1 (going at_unit line) (going at_return line) (going at_end line) (one_row numbers body units frames words room at_unit at_return line unit_row) (one_row numbers body units frames words room at_return at_end line return_row))))
+
+    course_of : (j : ℕ) (c : Course) → rows_to j (going first []) c → limited_run units frames words K j ≡ c
+    course_of j c r = ap (λ p. course p (machine_first p units frames words) j) (program_is numbers body) ∙ course_is (P numbers body) first j ∙ r
+
+    pub limited_last : limited_run units frames words K before_last ≡ going at_end line
+    limited_last = course_of before_last (going at_end line) ends
+
+    -- with these limits it ends after so many rows
+    pub limited_ends : limited_run units frames words K rows ≡ halted returned at_end line
+    limited_ends = course_of rows (halted returned at_end line) (then_rows numbers body units frames words room before_last 1 (going first []) (going at_end line) (halted returned at_end line) ends last_row)
+
+  -- ---- the machine without limits
+
+  pub roomy : Roomy None None None
+  roomy = record { heap = λ n le. refl; short = λ n lt. refl; calls = λ n le. refl; room = λ n le. refl }
+
+  pub machine_ends : machine_run K rows ≡ halted returned (at_end None None None roomy) line
+  machine_ends = limited_ends None None None roomy
 
   -- ---- the source
 
-  source_ends : source_run body (suc does.nodes) ≡ record { out = line; end = normal }
+  abbrev own_does : DoesLine numbers body None None None roomy e
+  own_does = does None None None roomy
+
+  source_ends : source_run body (suc own_does.nodes) ≡ record { out = line; end = normal }
   unfolding source_run steps step resume
   source_ends =
-      ap seen (does.means.by (operands (Static Print) [] none first_env ∷ waits returning ∷ []) first_env first_state [])
-      ∙ ap (λ z. seen (land_act (or_no_rule z (λ bs. noting (wrote bs) (give unit_v first_state))) [] (resume (waits returning ∷ [])))) (line_bytes e)
-      ∙ ap (λ z. record { out = z; end = normal }) (append-nil line)
+      ap seen (own_does.means.by (operands (Static Print) [] none first_env ∷ waits returning ∷ []) first_env first_state [])
+      ∙ ap (λ z. record { out = z; end = normal }) (append-nil (utf8 line) ∙ line_bytes e own_does.small)
 
-  -- ---- the machine
-
-  abbrev own : List Instr
-  own = code (pool_with numbers) (line_tree e)
-
-  abbrev tail : List Instr
-  tail = Invokestatic (pos 20) ∷ Invokestatic (pos 40) ∷ []
-
-  has_whole : HasAt (instrs numbers body) 0 (((own ++ []) ++ tail) ++ Return ∷ [])
-  has_whole = has_all (instrs numbers body)
-
-  has_body : HasAt (instrs numbers body) 0 ((own ++ []) ++ tail)
-  has_body = has_front (instrs numbers body) 0 ((own ++ []) ++ tail) (Return ∷ []) has_whole
-
-  has_own : HasAt (instrs numbers body) 0 own
-  has_own = subst (HasAt (instrs numbers body) 0) (append-nil own) (has_front (instrs numbers body) 0 (own ++ []) tail has_body)
-
-  abbrev q : ℕ
-  q = 0 + span own
-
-  own_span : span (own ++ []) ≡ span own
-  own_span = ap span (append-nil own)
-
-  has_tail : HasAt (instrs numbers body) q tail
-  has_tail = subst (λ k. HasAt (instrs numbers body) k tail) (ap (λ k. 0 + k) own_span) (has_back (instrs numbers body) 0 (own ++ []) tail has_body)
-
-  has_return : HasAt (instrs numbers body) (q + 3 + 3) (Return ∷ [])
-  has_return =
-      let s = span-append (own ++ []) tail in
-      let k : 0 + span ((own ++ []) ++ tail) ≡ q + 3 + 3 = omega (arith, s, own_span) in
-      subst (λ n. HasAt (instrs numbers body) n (Return ∷ [])) k (has_back (instrs numbers body) 0 ((own ++ []) ++ tail) (Return ∷ []) has_whole)
-
-  small : q + 9 < 65536
-  small = let m = main_size (pool_with numbers) e parts in omega (arith, m)
-
-  pushed : Pushed numbers body own (string_v line) 0 [] two [] does.rows
-  pushed = does.pushes.by 0 [] two [] has_own (omega (arith, small)) (omega arith)
-
-  abbrev hs : List HeapObject
-  hs = two ++ pushed.made
-
-  abbrev at_print : Machine
-  at_print = here numbers body q (pushed.w ∷ []) hs 0
-
-  abbrev at_unit : Machine
-  at_unit = here numbers body (q + 3) [] hs 0
-
-  abbrev at_return : Machine
-  at_return = here numbers body (q + 3 + 3) (word.Reference (length hs + 1) ∷ []) (hs ++ object.Unit ∷ []) (length hs + 1)
-
-  abbrev at_end : Machine
-  at_end = rest numbers body (hs ++ object.Unit ∷ []) (length hs + 1)
-
-  print_row : row K main_class at_print ≡ says line at_unit
-  print_row =
-      row_at numbers body q (pushed.w ∷ []) hs 0 (Invokestatic (pos 20)) (op.BuiltIn built.Print) (omega (arith, small)) has_tail.0 refl
-      ∙ ap (λ k. with_text k (λ x. or_stuck (bytes_in x) (says_bytes (rest numbers body hs 0) (main_frame numbers body q (pushed.w ∷ [])) (q + 3) []))) (alike_text hs (string_v line) pushed.w line pushed.alike refl)
-      ∙ ap (λ k. or_stuck k (says_bytes (rest numbers body hs 0) (main_frame numbers body q (pushed.w ∷ [])) (q + 3) [])) (line_bytes e)
-
-  unit_row : row K main_class at_unit ≡ on at_return
-  unit_row = row_at numbers body (q + 3) [] hs 0 (Invokestatic (pos 40)) (op.BuiltIn built.Unit) (omega (arith, small)) has_tail.1.0 refl
-
-  return_row : row K main_class at_return ≡ on at_end
-  return_row = row_at numbers body (q + 3 + 3) (word.Reference (length hs + 1) ∷ []) (hs ++ object.Unit ∷ []) (length hs + 1) Return op.Return (omega (arith, small)) has_return.0 refl
-
-  abbrev turns_to : ℕ → Run → Run → Type 0
-  turns_to j a b = turns K main_class j a ≡ b
-
-  said_turn : turns_to 1 (run.at at_print []) (run.at at_unit line)
-  unfolding turns
-  said_turn = ap (λ x. run.land x []) print_row
-
-  last_turn : turns_to 1 (run.at at_end line) (over line)
-  unfolding turns row
-  last_turn = refl
-
-  abbrev pub rows : ℕ
-  rows = 11 + (does.rows + (1 + (1 + (1 + 1))))
-
-  pub machine_ends : machine_run K main_class rows ≡ over line
-  machine_ends =
-      then_turns numbers body 11 (does.rows + (1 + (1 + (1 + 1)))) (run.at run.first_machine []) (run.at (here numbers body 0 [] two 0) []) (over line) (launches numbers body)
-      (then_turns numbers body does.rows (1 + (1 + (1 + 1))) (run.at (here numbers body 0 [] two 0) []) (run.at at_print []) (over line) pushed.rows
-      (then_turns numbers body 1 (1 + (1 + 1)) (run.at at_print []) (run.at at_unit line) (over line) said_turn
-      (then_turns numbers body 1 (1 + 1) (run.at at_unit line) (run.at at_return line) (over line) (one_turn numbers body at_unit at_return line unit_row)
-      (then_turns numbers body 1 1 (run.at at_return line) (run.at at_end line) (over line) (one_turn numbers body at_return at_end line return_row) last_turn))))
-
-  pub few_rows : rows ≤ 50000000
-  few_rows = let f = does.few in let c = parts.count in omega (arith, f, c)
-
-  pub corresponds : Corresponds (main_tree e) K main_class
-  corresponds = both_end body K main_class (suc does.nodes) rows line source_ends machine_ends
-
-  -- ---- how a run of it can stand
-
-  not_over : (m : Machine) (out o : List ℕ) → ◌≡◌ {A = Run} (run.at m out) (over o) → ⊥
-  not_over m out o h = cc
-
-  dead_not_over : (out o : List ℕ) → ◌≡◌ {A = Run} (dead out) (over o) → ⊥
-  dead_not_over out o h = cc
-
-  same_over : (a b : List ℕ) → ◌≡◌ {A = Run} (over a) (over b) → a ≡ b
-  same_over a b h = cc
-
-  pub never_spent : RunsAt K main_class 50000000 → ⊥
-  never_spent r =
-      let k : rows + (50000000 - rows) ≡ 50000000 = (let f = few_rows in omega (arith, f)) in
-      not_over r.machine r.out line (sym r.is ∙ ap (machine_run K main_class) (sym k) ∙ over_later K main_class rows (50000000 - rows) line machine_ends)
-
-  pub never_sticks : (n : ℕ) → SticksAt K main_class n → ⊥
-  never_sticks n s = corresponds.never_stuck (suc n) (subst IsStuck (sym s.is) tt)
-
-  -- where it ends, it has said the line
-  pub said_at_end : (n : ℕ) (f : EndsAt K main_class n) → f.out ≡ line
-  said_at_end n f =
-      let k : rows + n ≡ n + rows = omega arith in
-      same_over f.out line (sym (over_later K main_class n rows f.out f.is) ∙ ap (machine_run K main_class) (sym k) ∙ over_later K main_class rows n line machine_ends)
+  pub corresponds : Corresponds (main_tree e) K
+  corresponds = both_end body K (suc own_does.nodes) rows line (at_end None None None roomy) source_ends machine_ends

@@ -5,7 +5,7 @@ use Rattle.std.specs.List.{list_any}
 use Rattle.std.proofs.lemmas.Bool.{cases_Bool, cond-true, cond-false, eqb-true, eq-eqb, false≢true}
 use Rattle.scw_classfile.specs.declared.pool_entry.PoolEntry.{PoolEntry}
 use Rattle.scw_classfile.specs.declared.pool_entry.PoolEntry.TheVariants as entry
-use Rattle.scw_tool.specs.Names.{at}
+use Rattle.scw_link.specs.Names.{at}
 use Rattle.scw_tool.specs.Source.{Product, Sum, count_of}
 use Rattle.scw_tool.specs.Constants.{fixed_pool}
 use Rattle.scw_tool.specs.Generate.{is_number, index_from, number_index, with_number, with_product, with_sum, numbers_of, integer, pool_with}

@@ -23,7 +23,7 @@ use Rattle.scw_tool.specs.declared.tree.Erased.TheVariants as erased
 use Rattle.scw_tool.specs.Tree.{Tree, Trees, node, none, more}
 use Rattle.scw_tool.specs.Constants.{fixed_pool}
 use Rattle.scw_tool.specs.Instr.{code_of}
-use Rattle.scw_tool.specs.Names.{at, utf8, is_text}
+use Rattle.scw_link.specs.Names.{at, utf8, is_text}
 use Rattle.scw_tool.specs.Source.{Product, Sum, main_tree}
 
 -- ---- constants

@@ -1,5 +1,5 @@
 -- What a call of the program came to, from its words to what it put.
-use Rattle.std.specs.Prelude.{◌≡◌, ◌↔◌, ℕ, suc, ◌≤◌, Bool, ◌||◌, IsTrue, List, [], ◌∷◌, length, Option, Some, None, IsSome, IfSome, Ok, nat_eq}
+use Rattle.std.specs.Prelude.{◌≡◌, ◌↔◌, ℕ, ◌≤◌, Bool, ◌||◌, IsTrue, List, [], ◌∷◌, length, Option, Some, None, IsSome, IfSome, Ok, nat_eq}
 use Rattle.std.specs.Io.KnownBytes.{append_known}
 use Rattle.scw_outside.specs.Causes.{Rose}
 use Rattle.scw_outside.specs.Content.{Files, Reads, HasName}
@@ -10,10 +10,11 @@ use Rattle.scw_classfile.specs.Format.{class}
 use Rattle.scw_classfile.specs.ReadClass.{read_class}
 use Rattle.scw_tool.specs.declared.answer.Answer.{Answer}
 use Rattle.scw_tool.specs.declared.answer.Answer.TheVariants.{Done, Words, ReadFault, WriteFault, NoMemory, NotBuilt}
-use Rattle.scw_tool.specs.CameTo.{RunsAt, EndsAt}
+use Rattle.scw_machine.specs.Course.{output_of}
+use Rattle.scw_tool.specs.CameTo.{EndsAt}
 use Rattle.scw_tool.specs.Corresponds.{Corresponds}
 use Rattle.scw_tool.specs.Generate.{class_of, main_class}
-use Rattle.scw_tool.specs.MachineRun.{machine_run, said}
+use Rattle.scw_tool.specs.MachineRun.{machine_run}
 use Rattle.scw_tool.specs.Source.{Sum, Says, main_tree, printed_line}
 use Rattle.scw_tool.specs.Words.{job_name}
 
@@ -51,20 +52,19 @@ pub record Compiled (words : List (List ℕ)) (told : Option Files) (files : Lis
   pub generated : made ≡ class_of sum
   pub spelled : files ≡ written made
   pub back : read_class (class.spell made) ≡ Ok made
-  pub same : Corresponds (main_tree sum) (made ∷ []) main_class
+  pub same : Corresponds (main_tree sum) (made ∷ [])
 
 -- the machine on these files has ended after so many rows and not before, and all that it said was put
 pub record Executed (words : List (List ℕ)) (told : Option Files) (files : List FileOut) (steps : ℕ) (before now : Option (List ℕ)) : Type 0 where
   pub compiled : Compiled words told files
-  pub ends : EndsAt (compiled.made ∷ []) main_class steps
+  pub ends : EndsAt (compiled.made ∷ []) steps
   pub put : now ≡ append_known before ends.out
   pub value : ends.out ≡ printed_line compiled.sum
 
--- the put of what the row after `steps` rows said failed: all that was said before it was put, and a front of it
+-- `out` failed, and a front of what the machine had put after `steps` rows was taken
 pub record CutOff (words : List (List ℕ)) (told : Option Files) (files : List FileOut) (steps : ℕ) (before now : Option (List ℕ)) : Type 0 where
   pub compiled : Compiled words told files
-  pub runs : RunsAt (compiled.made ∷ []) main_class steps
-  pub part : TookPart before now (said (machine_run (compiled.made ∷ []) main_class (suc steps)))
+  pub part : TookPart before now (output_of (machine_run (compiled.made ∷ []) steps))
 
 -- the bytes read are no source
 pub record IsNoSource (words : List (List ℕ)) (told : Option Files) : Type 0 where
@@ -129,13 +129,12 @@ Comes e NotBuilt = IsNoSource e.words e.told × (e.taken_after ≡ e.taken_befor
 
 pub record WentWell (e : Sum) (files : List FileOut) (steps : ℕ) (before now : Option (List ℕ)) : Type 0 where
   pub spelled : files ≡ written (class_of e)
-  pub ends : EndsAt (class_of e ∷ []) main_class steps
+  pub ends : EndsAt (class_of e ∷ []) steps
   pub put : now ≡ append_known before (printed_line e)
 
 pub record WentWrong (e : Sum) (files : List FileOut) (steps : ℕ) (before now : Option (List ℕ)) : Type 0 where
   pub spelled : files ≡ written (class_of e)
-  pub runs : RunsAt (class_of e ∷ []) main_class steps
-  pub part : TookPart before now (said (machine_run (class_of e ∷ []) main_class (suc steps)))
+  pub part : TookPart before now (output_of (machine_run (class_of e ∷ []) steps))
 
 -- what a sum's run came to, from the room and the faults of `out` and what it had taken
 abbrev pub Went : Sum → Option ℕ → ℕ → ℕ → Option (List ℕ) → Option (List ℕ) → Answer → Type 0

@@ -1,7 +1,6 @@
 pub mod Tree
 pub mod TreeOf
 pub mod Numbers
-pub mod Output
 pub mod State
 pub mod Step
 pub mod Seen
@@ -10,16 +9,11 @@ pub mod Digits
 pub mod Flat
 pub mod Reading
 pub mod Instr
-pub mod Names
-pub mod NamedView
-pub mod Resolve
-pub mod Row
-pub mod MachineRun
-pub mod CameTo
 pub mod Constants
 pub mod Generate
+pub mod MachineRun
+pub mod CameTo
 pub mod Corresponds
 pub mod Words
 pub mod Status
-pub mod PutSaid
 pub mod Job

@@ -1,56 +1,48 @@
--- A run of the machine, which has no limit on heap or frames.
-use Rattle.std.specs.Prelude.{ℕ, zero, suc, List, [], ◌∷◌, ◌++◌}
+-- The run of class files by the machine, with no limit on heap or frames (JVMS 2.5 and 2.10), and what it shows.
+use Rattle.std.specs.Prelude.{ℕ, List, Option, None, codes}
 use Rattle.scw_classfile.specs.declared.class_file.ClassFile.{ClassFile}
-use Rattle.scw_tool.specs.declared.state.Body.TheVariants.{Launch}
-use Rattle.scw_tool.specs.declared.state.Frame.{Frame}
-use Rattle.scw_tool.specs.declared.state.Machine.{Machine}
-use Rattle.scw_tool.specs.Row.{Next, on, says, ended, stuck, row}
-use Rattle.scw_tool.specs.Seen.{Seen, running, normal}
+use Rattle.scw_frame.specs.declared.program.Program.{Program}
+use Rattle.scw_link.specs.Linked.{linked}
+use Rattle.scw_machine.specs.Course.{Halt, returned, uncaught, stuck, full, crowded, Course, going, halted, course}
+use Rattle.scw_machine.specs.Load.{first_state}
+use Rattle.scw_tool.specs.Seen.{Seen, running, normal, thrown}
 
-pub data Run : Type 0 where
-  -- a state, and all that was said before it
-  at : Machine → List ℕ → Run
-  over : List ℕ → Run
-  dead : List ℕ → Run
+-- the object whose `main` is run
+abbrev pub main_name : List ℕ
+main_name = codes "Main"
 
--- nothing else appends to what is said
-abbrev pub land : Next → List ℕ → Run
-land (on m) out = at m out
-land (says bs m) out = at m (out ++ bs)
-land ended out = over out
-land stuck out = dead out
+-- the program of the files, which runs that object
+abbrev pub program_of : List ClassFile → Program
+program_of files = linked files main_name
 
-abbrev pub turn : List ClassFile → List ℕ → Run → Run
-turn files main (at m out) = land (row files main m) out
-turn files main (over out) = over out
-turn files main (dead out) = dead out
+-- the run of the files after so many rows, from the first state, with these limits
+abbrev pub limited_run : Option ℕ → Option ℕ → Option ℕ → List ClassFile → ℕ → Course
+limited_run heap frames words files n = course (program_of files) (first_state (program_of files) heap frames words) n
 
-unfoldable pub turns : List ClassFile → List ℕ → ℕ → Run → Run
-turns files main zero r = r
-turns files main (suc n) r = turns files main n (turn files main r)
+-- the same with no limit
+abbrev pub machine_run : List ClassFile → ℕ → Course
+machine_run files n = limited_run None None None files n
 
--- the launcher's frame: a stack of two words and one local
-abbrev pub first_frame : Frame
-first_frame = record { body = Launch; room = 2; place = 0; locals = []; stack = [] }
+-- what a halt shows of itself
+abbrev pub shown_halt : Halt → List ℕ → Seen
+shown_halt returned out = record { out = out; end = normal }
+shown_halt (uncaught r) out = record { out = out; end = thrown }
+shown_halt stuck out = record { out = out; end = running }
+shown_halt (full need) out = record { out = out; end = running }
+shown_halt crowded out = record { out = out; end = running }
 
-abbrev pub first_machine : Machine
-first_machine = record { frames = first_frame ∷ []; heap = []; unit = 0 }
+abbrev pub shown : Course → Seen
+shown (going s out) = record { out = out; end = running }
+shown (halted h s out) = shown_halt h out
 
--- the run of the object whose class has this name, after n rows
-abbrev pub machine_run : List ClassFile → List ℕ → ℕ → Run
-machine_run files main n = turns files main n (at first_machine [])
+-- the next instruction isn't defined
+abbrev pub is_stuck : Halt → Type 0
+is_stuck returned = ⊥
+is_stuck (uncaught r) = ⊥
+is_stuck stuck = Unit {0}
+is_stuck (full need) = ⊥
+is_stuck crowded = ⊥
 
-abbrev pub said : Run → List ℕ
-said (at m out) = out
-said (over out) = out
-said (dead out) = out
-
-abbrev pub shown : Run → Seen
-shown (at m out) = record { out = out; end = running }
-shown (over out) = record { out = out; end = normal }
-shown (dead out) = record { out = out; end = running }
-
-abbrev pub IsStuck : Run → Type 0
-IsStuck (at m out) = ⊥
-IsStuck (over out) = ⊥
-IsStuck (dead out) = Unit {0}
+abbrev pub IsStuck : Course → Type 0
+IsStuck (going s out) = ⊥
+IsStuck (halted h s out) = is_stuck h

@@ -8,6 +8,8 @@ use Rattle.scw_tool.specs.Tree.{Tree}
 pub data End : Type 0 where
   running : End
   normal : End
+  -- an exception was thrown that nothing caught; no source here throws one
+  thrown : End
 
 pub record Seen : Type 0 where
   pub out : List ℕ
@@ -49,6 +51,7 @@ IsPrefix a b = (rest : List ℕ) × (b ≡ a ++ rest)
 abbrev pub IsEnded : End → Type 0
 IsEnded running = ⊥
 IsEnded normal = Unit {0}
+IsEnded thrown = Unit {0}
 
 -- the second run has come at least as far as the first
 pub record Covers (a b : Seen) : Type 0 where

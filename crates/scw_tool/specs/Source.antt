@@ -9,7 +9,7 @@ use Rattle.scw_tool.specs.declared.tree.Literal.TheVariants.{Int, Text}
 use Rattle.scw_tool.specs.declared.tree.Primitive as primitive_type
 use Rattle.scw_tool.specs.declared.tree.Primitive.TheVariants as primitive
 use Rattle.scw_tool.specs.declared.tree.RunMethod.TheVariants.{Print}
-use Rattle.scw_tool.specs.Numbers.{computed, number_text}
+use Rattle.scw_tool.specs.Numbers.{computed, int_text}
 use Rattle.scw_tool.specs.Tree.{Tree, node, none, more}
 
 -- ---- the text
@@ -91,7 +91,7 @@ sum_value (p ∷ ps) = sum_from (product_value p) ps
 
 -- the line that is printed
 abbrev pub printed_line : Sum → List ℕ
-printed_line e = number_text (sum_value e) ++ codes "\n"
+printed_line e = int_text (sum_value e) ++ codes "\n"
 
 -- ---- the tree
 

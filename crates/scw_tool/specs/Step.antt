@@ -6,8 +6,8 @@ use Rattle.scw_tool.specs.declared.tree.Op.TheVariants.{Literal, Primitive, Stat
 use Rattle.scw_tool.specs.declared.tree.Literal.TheVariants.{Int, Text}
 use Rattle.scw_tool.specs.declared.tree.Primitive.TheVariants.{Arithmetic, Concatenate}
 use Rattle.scw_tool.specs.declared.tree.RunMethod.TheVariants.{Print}
-use Rattle.scw_tool.specs.Numbers.{computed, number_text}
-use Rattle.scw_tool.specs.Output.{bytes_in}
+use Rattle.scw_value.specs.Text.{utf8}
+use Rattle.scw_tool.specs.Numbers.{computed, int_text}
 use Rattle.scw_tool.specs.State.{Value, unit_v, int_v, string_v, ref_v, Env, State}
 use Rattle.scw_tool.specs.Tree.{Tree, Trees, node, none, more}
 
@@ -75,7 +75,7 @@ string_in _ = None
 -- the text of a value in a concatenation
 abbrev pub text_in : Value → Option (List ℕ)
 text_in unit_v = Some (codes "()")
-text_in (int_v n) = Some (number_text n)
+text_in (int_v n) = Some (int_text n)
 text_in (string_v us) = Some us
 text_in (ref_v r) = None
 
@@ -84,7 +84,7 @@ act (Literal (Int n)) vs s = none_of vs (give (int_v n) s)
 act (Literal (Text us)) vs s = none_of vs (give (string_v us) s)
 act (Primitive (Arithmetic o)) vs s = two_of vs (λ a b. or_no_rule (int_in a) (λ x. or_no_rule (int_in b) (λ y. give (int_v (computed o x y)) s)))
 act (Primitive Concatenate) vs s = two_of vs (λ a b. or_no_rule (text_in a) (λ us. or_no_rule (text_in b) (λ ws. give (string_v (us ++ ws)) s)))
-act (Static Print) vs s = one_of vs (λ a. or_no_rule (string_in a) (λ us. or_no_rule (bytes_in us) (λ bs. noting (wrote bs) (give unit_v s))))
+act (Static Print) vs s = one_of vs (λ a. or_no_rule (string_in a) (λ us. noting (wrote (utf8 us)) (give unit_v s)))
 
 -- ---- nodes begin and end
 

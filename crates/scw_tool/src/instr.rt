@@ -1,7 +1,7 @@
 //! The instructions that a sum is compiled to: JVMS 6.5.
 
 ghost use Rattle.std.specs.Prelude.{◌≡◌, IfOk, map};
-ghost use Rattle.scw_tool.specs.Instr.{bare, by_numbers, code_of, index_of, indexed, opcode_of, operands, simple_of, size_of};
+ghost use Rattle.scw_tool.specs.Instr.{code_of, index_of, opcode_of, operands};
 
 use scw_code::{InstrArgs, Instrs, Numbers};
 use sqlite_items::Items;
@@ -73,16 +73,6 @@ impl Instr {
             | Instr::Return => None,
         }
     }
-
-    /// How many bytes the opcode and its operands take (JVMS 6.5).
-    pub fn size(self) -> u8
-        ensures { result ≡ size_of self }
-    {
-        match self.index() {
-            None => 1,
-            Some(_) => 3,
-        }
-    }
 }
 
 fn operands(index: Option<i32>) -> Numbers
@@ -116,51 +106,4 @@ pub fn code_of_all(alloc: Global, instrs: &[Instr]) -> Result<Instrs, AllocError
         code.push(code_of(*instr))?;
     }
     Ok(code)
-}
-
-fn bare(op: u8) -> Option<Instr>
-    ensures { result ≡ bare op }
-{
-    match op {
-        42 => Some(Instr::Aload0),
-        89 => Some(Instr::Dup),
-        96 => Some(Instr::Iadd),
-        104 => Some(Instr::Imul),
-        176 => Some(Instr::Areturn),
-        177 => Some(Instr::Return),
-        _ => None,
-    }
-}
-
-fn indexed(op: u8, n: i32) -> Option<Instr>
-    ensures { result ≡ indexed op n }
-{
-    match op {
-        19 => Some(Instr::LdcW(n)),
-        182 => Some(Instr::Invokevirtual(n)),
-        183 => Some(Instr::Invokespecial(n)),
-        184 => Some(Instr::Invokestatic(n)),
-        187 => Some(Instr::New(n)),
-        _ => None,
-    }
-}
-
-fn by_numbers(op: u8, numbers: Numbers) -> Option<Instr>
-    ensures { result ≡ by_numbers op numbers }
-{
-    match numbers {
-        Numbers::Zero => bare(op),
-        Numbers::One(n) => indexed(op, n),
-        Numbers::Two(_, _) | Numbers::Three(_, _, _) => None,
-    }
-}
-
-/// The instruction of a method's code, if a sum is compiled to such ones.
-pub fn simple_of(instr: &scw_code::Instr) -> Option<Instr>
-    ensures { result ≡ simple_of instr.now }
-{
-    match &instr.args {
-        InstrArgs::Plain(numbers) => by_numbers(instr.op, *numbers),
-        InstrArgs::Table(_) | InstrArgs::Lookup(_) | InstrArgs::Wide { op: _, args: _ } => None,
-    }
 }

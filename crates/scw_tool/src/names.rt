@@ -1,22 +1,11 @@
-//! What an index of the constant pool names (JVMS 4.4).
+//! Texts in the constant pool (JVMS 4.4.7).
 
 ghost use Rattle.std.specs.Prelude.{◌≡◌};
 ghost use Rattle.std.specs.Option.{option_copied};
-ghost use Rattle.scw_tool.specs.Names.{at, utf8, class_name, same, is_text};
+ghost use Rattle.scw_link.specs.Names.{at, utf8, is_text};
 
 use scw_classfile::PoolEntry;
 use scw_text::Units;
-
-/// Whether units are an ASCII text.
-pub fn same(units: &[u16], text: &[u8]) -> bool
-    ensures { result ≡ same units.now text.now }
-{
-    match (units, text) {
-        ([], []) => true,
-        ([a, more @ ..], [b, rest @ ..]) => *a == u16::from(*b) && same(more, rest),
-        _ => false,
-    }
-}
 
 /// Whether a text is there and is this one.
 pub fn is_text(found: Option<&Units>, text: &Units) -> bool
@@ -28,8 +17,8 @@ pub fn is_text(found: Option<&Units>, text: &Units) -> bool
     }
 }
 
-/// The entry of an index.
-pub fn entry_at(pool: &[PoolEntry], n: usize) -> Option<&PoolEntry>
+/// The entry of an index, which counts from 1.
+fn entry_at(pool: &[PoolEntry], n: usize) -> Option<&PoolEntry>
     ensures { option_copied result ≡ at pool.now n }
 {
     if n == 0 { None } else { pool.get(n - 1) }
@@ -43,22 +32,4 @@ pub fn utf8_at(pool: &[PoolEntry], n: u16) -> Option<&Units>
         Some(PoolEntry::Utf8(units)) => Some(units),
         _ => None,
     }
-}
-
-/// The name of the class of an index.
-pub fn class_name_at(pool: &[PoolEntry], n: usize) -> Option<&Units>
-    ensures { option_copied result ≡ class_name pool.now (at pool.now n) }
-{
-    match entry_at(pool, n) {
-        Some(PoolEntry::Class(k)) => utf8_at(pool, *k),
-        _ => None,
-    }
-}
-
-/// A method, by its class, its name and its descriptor.
-#[derive(Clone, Copy)]
-pub struct Named<'p> {
-    pub class: &'p Units,
-    pub name: &'p Units,
-    pub descriptor: &'p Units,
 }

@@ -12,10 +12,10 @@ ghost use Rattle.scw_tool.specs.Words.{job_file, job_name};
 
 use crate::answer::{Answer, Outcome};
 use crate::error_line::report;
-use crate::pipeline::{Finished, Made, execute, make};
-use crate::put_said::put_said;
+use crate::pipeline::{make, prepare};
 use crate::reader::{Sum, read_source};
 use crate::words::{file_of, name_of};
+use scw_machine::End;
 use scw_outside::{Sink, Store, StoreFault};
 use scw_text::NoMemory;
 use std::alloc::Global;
@@ -23,17 +23,22 @@ use std::alloc::Global;
 /// A file of more bytes than a source may have is read only so far.
 const MOST_READ: u32 = 1_048_577;
 
+/// The rows that a run may take.
+const MOST_ROWS: u64 = 50_000_000;
+
 // Compiles a sum, runs its class file and puts what it says.
 fn run_sum<O: Sink>(alloc: Global, sum: &Sum, out: &mut O) -> Result<Answer, NoMemory>
     requires { IsTrue (fits_sum sum.now) }
     ensures went { IfOk result (λ a. Went sum.now (O.room out.old) (O.fault_count out.old) (O.fault_count out.new) (O.taken out.old) (O.taken out.new) a) }
     ensures kept { OnErr result (O.taken out.new ≡ O.taken out.old) }
 {
-    let Made { files, class } = make(alloc, sum)?;
-    let Finished { steps, said } = execute(alloc, class, sum)?;
-    match put_said(out, said.as_slice()) {
-        Ok(()) => Ok(Answer::Done(files, steps)),
-        Err(steps) => Ok(Answer::WriteFault(files, steps)),
+    let files = make(alloc, sum)?;
+    let mut machine = prepare(alloc, &files, sum)?;
+    match machine.run(out, MOST_ROWS) {
+        End::Ended => Ok(Answer::Done(files, machine.done())),
+        End::SinkFault => Ok(Answer::WriteFault(files, machine.done())),
+        End::Thrown(_) | End::Steps | End::HeapFull { .. } | End::Frames | End::Stuck(_) =>
+            unreachable!(),
     }
 }
 

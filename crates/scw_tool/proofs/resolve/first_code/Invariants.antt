@@ -1,6 +1,0 @@
-use Rattle.std.proofs.Common.{◌≡◌, drop}
-use Rattle.scw_tool.specs.Resolve.{first_code}
-use Rattle.scw_tool.proofs.resolve.first_code.Given as goal
-
-abbrev pub invariant-loop-attribute : goal.invariant-loop-attribute
-invariant-loop-attribute l = first_code l.attributes ≡ first_code (drop l.attribute-index l.attributes)

@@ -1,6 +1,0 @@
--- A method's names, as the definitions see them.
-use Rattle.scw_tool.specs.declared.names.Named as code
-use Rattle.scw_tool.specs.Names.{Named}
-
-abbrev pub named_view : code.Named → Named
-named_view n = record { class = n.class.now; name = n.name.now; descriptor = n.descriptor.now }
