@@ -133,11 +133,16 @@ fails-put p s t old mid new before between waiting behind m part short = record 
 }
 
 -- the sink failed at bytes that waited
-breaks-at : (steps rows : ℕ) (p : Program) (s : State) (old mid new : Option (List ℕ)) (before between : Option ℕ) (out waiting : List ℕ)
-    → rows ≤ steps → output_of (course p s rows) ≡ out → IsParted old mid before between out waiting → TookPart mid new waiting → IfSome between (λ r. r < length waiting)
+breaks-at : (steps rows earlier : ℕ) (p : Program) (s t : State) (said : List ℕ) (old mid new : Option (List ℕ)) (before between : Option ℕ) (out waiting : List ℕ)
+    → rows ≤ steps → rows ≤ earlier + 1 → course p s earlier ≡ going t said → output_of (course p s rows) ≡ out → IsParted old mid before between out waiting → TookPart mid new waiting → IfSome between (λ r. r < length waiting)
     → Breaks steps rows p s old new before
-breaks-at steps rows p s old mid new before between out waiting within is a part short = record {
+breaks-at steps rows earlier p s t said old mid new before between out waiting within count run is a part short = record {
   within = within;
+  earlier = earlier;
+  count = count;
+  last = t;
+  out = said;
+  run = run;
   part = subst (TookPart old new) (sym is) (part-whole old mid new before between out waiting a part);
   short = subst (λ (l : List ℕ). IfSome before (λ r. r < length l)) (sym is) (short-whole old mid before between out waiting a short);
 }
@@ -145,7 +150,7 @@ breaks-at steps rows p s old mid new before between out waiting within is a part
 breaks-put : (steps i : ℕ) (p : Program) (s t : State) (old mid new : Option (List ℕ)) (before between : Option ℕ) (waiting : List ℕ)
     → i ≤ steps → Gathers i p s t old mid before between waiting → TookPart mid new waiting → IfSome between (λ r. r < length waiting) → Breaks steps i p s old new before
 breaks-put steps i p s t old mid new before between waiting within g part short =
-    breaks-at steps i p s old mid new before between g.out waiting within (ap output_of g.run) g.parted part short
+    breaks-at steps i i p s t g.out old mid new before between g.out waiting within (omega arith) g.run (ap output_of g.run) g.parted part short
 
 -- the sink failed in a row
 pub breaks-row : (steps i : ℕ) (p : Program) (s t u : State) (old mid new : Option (List ℕ)) (before between : Option ℕ) (waiting : List ℕ)
@@ -154,6 +159,11 @@ breaks-row steps i p s t u old mid new before between waiting within g f =
     let is : output_of (course p s (i + 1)) ≡ g.out ++ f.said = ap output_of (course-next p s t i g.out g.run ∙ f.goes.goes g.out) in
     record {
       within = omega arith;
+      earlier = i;
+      count = omega arith;
+      last = t;
+      out = g.out;
+      run = g.run;
       part = subst (TookPart old new) (sym is) (part-more old mid new before between g.out waiting f.said g.parted f.part);
       short = subst (λ (l : List ℕ). IfSome before (λ r. r < length l)) (sym is) (short-more old mid before between g.out waiting f.said g.parted f.short);
     }
@@ -229,7 +239,7 @@ came-over wanted end steps i p s t u old mid last new before between after fault
 came-over wanted end steps i p s t u old mid last new before between after faults more waiting behind gone within g o (inr l) =
     let a = parted-next old mid last before between after g.out waiting behind g.parted o.parted in
     subst (λ e. Came e steps (i + rows_of wanted) p s u old new before) (sym l.fault)
-    (breaks-at steps (i + rows_of wanted) p s old last new before after g.out behind (rows_of-within wanted i steps within) (output-over wanted i p s t u g.out g.run o.halts) a l.part l.short)
+    (breaks-at steps (i + rows_of wanted) i p s t g.out old last new before after g.out behind (rows_of-within wanted i steps within) (rows_of-within wanted i (i + 1) (omega arith)) g.run (output-over wanted i p s t u g.out g.run o.halts) a l.part l.short)
 
 -- all rows were done, and all that waited was put, or the sink failed
 pub came-steps : (end : End) (steps : ℕ) (p : Program) (s t : State) (old mid new : Option (List ℕ)) (before between : Option ℕ) (faults more : ℕ) (waiting gone : List ℕ)

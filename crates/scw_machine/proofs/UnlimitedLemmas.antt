@@ -257,6 +257,11 @@ breaks-free steps rows p s before now room h =
     alongside-grows (course p s rows) (course p (unlimited s) rows) (course-alongside p s rows) in
     record {
       within = h.within;
+      earlier = h.earlier;
+      count = h.count;
+      last = unlimited h.last;
+      out = h.out;
+      run = course-free p s h.earlier (going h.last h.out) h.run refl;
       part = subst (TookPart before now) (sym g.is) (part-front before now (output_of (course p s rows)) g.more h.part);
       short = short-grown room (output_of (course p s rows)) (output_of (course p (unlimited s) rows)) g h.short;
     }

@@ -69,9 +69,15 @@ pub record Sticks (place : Place) (steps rows : ℕ) (p : Program) (s : State) (
   pub stops : Stops stuck steps rows p s before now
   pub at : place ≡ place_of p stops.last.frames
 
--- The sink took a front of what was put, and not all of it; where it told a room, that was less.
+-- The sink took a front of what was put, and not all of it; where it told a room, that was less. All of these rows were
+-- done: the run went on after them, or after all but the last.
 pub record Breaks (steps rows : ℕ) (p : Program) (s : State) (before now : Option (List ℕ)) (room : Option ℕ) : Type 0 where
   pub within : rows ≤ steps
+  pub earlier : ℕ
+  pub count : rows ≤ earlier + 1
+  pub last : State
+  pub out : List ℕ
+  pub run : course p s earlier ≡ going last out
   pub part : TookPart before now (output_of (course p s rows))
   pub short : IfSome room (λ r. r < length (output_of (course p s rows)))
 

@@ -123,7 +123,11 @@ module _ (e : Sum) (fits : IsTrue (fits_sum e)) where
         }
 
     pub went_wrong : (files : List FileOut) → files ≡ written (class_of e) → Came why.SinkFault 50000000 n P free t old new room → WentWrong e files n old new
-    went_wrong files spelled c = record { spelled = spelled; part = c.part }
+    went_wrong files spelled c = record {
+      spelled = spelled;
+      done = λ k lt. (let g = went_on P free c.earlier k c.last c.out c.run (let m = c.count in omega (arith, lt, m)) in record { state = g.state; out = g.out; is = g.is });
+      part = c.part;
+    }
 
     pub no_room : Came why.SinkFault 50000000 n P free t old new room → IfSome room (λ r. length line ≤ r → ⊥)
     no_room c = by room c.short

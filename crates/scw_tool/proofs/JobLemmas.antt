@@ -44,7 +44,7 @@ ran_comes e source sum (Done files steps) read says w = record {
 ran_comes e source sum Words read says w = absurd w
 ran_comes e source sum ReadFault read says w = absurd w
 ran_comes e source sum (WriteFault files steps) read says w = record {
-  cut = record { compiled = compiled e.words e.told files source sum read says w.0.spelled; part = w.0.part };
+  cut = record { compiled = compiled e.words e.told files source sum read says w.0.spelled; done = w.0.done; part = w.0.part };
   rose = w.1;
   no_room = w.2;
 }

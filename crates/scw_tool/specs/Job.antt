@@ -1,5 +1,5 @@
 -- What a call of the program came to, from its words to what it put.
-use Rattle.std.specs.Prelude.{◌≡◌, ◌↔◌, ℕ, ◌≤◌, Bool, ◌||◌, IsTrue, List, [], ◌∷◌, length, Option, Some, None, IsSome, IfSome, Ok, nat_eq}
+use Rattle.std.specs.Prelude.{◌≡◌, ◌↔◌, ℕ, ◌<◌, ◌≤◌, Bool, ◌||◌, IsTrue, List, [], ◌∷◌, length, Option, Some, None, IsSome, IfSome, Ok, nat_eq}
 use Rattle.std.specs.Io.KnownBytes.{append_known}
 use Rattle.scw_outside.specs.Causes.{Rose}
 use Rattle.scw_outside.specs.Content.{Files, Reads, HasName}
@@ -11,7 +11,7 @@ use Rattle.scw_classfile.specs.ReadClass.{read_class}
 use Rattle.scw_tool.specs.declared.answer.Answer.{Answer}
 use Rattle.scw_tool.specs.declared.answer.Answer.TheVariants.{Done, Words, ReadFault, WriteFault, NoMemory, NotBuilt}
 use Rattle.scw_machine.specs.Course.{output_of}
-use Rattle.scw_tool.specs.CameTo.{EndsAt}
+use Rattle.scw_tool.specs.CameTo.{EndsAt, RunsAt}
 use Rattle.scw_tool.specs.Corresponds.{Corresponds}
 use Rattle.scw_tool.specs.Generate.{class_of, main_class}
 use Rattle.scw_tool.specs.MachineRun.{machine_run}
@@ -61,9 +61,10 @@ pub record Executed (words : List (List ℕ)) (told : Option Files) (files : Lis
   pub put : now ≡ append_known before ends.out
   pub value : ends.out ≡ printed_line compiled.sum
 
--- `out` failed, and a front of what the machine had put after `steps` rows was taken
+-- `out` failed: each of the `steps` rows was done, and a front of what the machine had put after them was taken
 pub record CutOff (words : List (List ℕ)) (told : Option Files) (files : List FileOut) (steps : ℕ) (before now : Option (List ℕ)) : Type 0 where
   pub compiled : Compiled words told files
+  pub done : (k : ℕ) → k < steps → RunsAt (compiled.made ∷ []) k
   pub part : TookPart before now (output_of (machine_run (compiled.made ∷ []) steps))
 
 -- the bytes read are no source
@@ -134,6 +135,7 @@ pub record WentWell (e : Sum) (files : List FileOut) (steps : ℕ) (before now :
 
 pub record WentWrong (e : Sum) (files : List FileOut) (steps : ℕ) (before now : Option (List ℕ)) : Type 0 where
   pub spelled : files ≡ written (class_of e)
+  pub done : (k : ℕ) → k < steps → RunsAt (class_of e ∷ []) k
   pub part : TookPart before now (output_of (machine_run (class_of e ∷ []) steps))
 
 -- what a sum's run came to, from the room and the faults of `out` and what it had taken
