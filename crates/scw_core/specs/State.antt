@@ -3,7 +3,7 @@ use Rattle.std.specs.Prelude.{ℕ, List, [], ◌∷◌, ◌++◌, Bool, true, fa
 use Rattle.scw_text.specs.declared.number.SymId.{SymId}
 use Rattle.scw_core.specs.declared.operator.TextId.{TextId}
 use Rattle.scw_core.specs.declared.tree.Local.{Local}
-use Rattle.scw_core.specs.Types.{Erased, void, boolean, char, int, long, unit_ref, ref, arr, same_symbol}
+use Rattle.scw_core.specs.Types.{Erased, void, boolean, char, int, long, unit_ref, ref, arr, same_symbol, same_text}
 use Rattle.scw_core.specs.Tree.{Tree}
 use Rattle.scw_core.specs.Program.{look}
 
@@ -67,18 +67,6 @@ abbrev pub same_boolean : Bool → Bool → Bool
 same_boolean true b = b
 same_boolean false b = not b
 
-abbrev pub is_no_unit : List ℕ → Bool
-is_no_unit [] = true
-is_no_unit (u ∷ us) = false
-
-abbrev pub begins_with : ℕ → (List ℕ → Bool) → List ℕ → Bool
-begins_with a rest [] = false
-begins_with a rest (b ∷ bs) = nat_eq a b && rest bs
-
-unfoldable pub same_units : List ℕ → List ℕ → Bool
-same_units [] bs = is_no_unit bs
-same_units (a ∷ as') bs = begins_with a (same_units as') bs
-
 abbrev pub is_unit : Value → Bool
 is_unit unit_v = true
 is_unit _ = false
@@ -104,7 +92,7 @@ is_null null_v = true
 is_null _ = false
 
 abbrev pub is_string : List ℕ → Value → Bool
-is_string a (string_v b) = same_units a b
+is_string a (string_v b) = same_text a b
 is_string a _ = false
 
 abbrev pub is_reference : ℕ → Value → Bool

@@ -5,6 +5,7 @@
 
 mod class;
 mod core_type;
+mod main_method;
 mod operator;
 mod plain;
 mod program;

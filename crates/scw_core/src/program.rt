@@ -1,5 +1,7 @@
 //! A core program.
 
+ghost use Rattle.std.specs.Prelude.{◌≡◌};
+
 use crate::class::Classes;
 use crate::core_type::CoreType;
 use crate::tree::Tree;
@@ -121,6 +123,15 @@ pub struct Program {
     pub templates: Items<Template>,
     pub entries: Items<EntryTree>,
     pub implicits: Items<Implicit>,
+}
+
+impl Program {
+    /// The classes with code, in order.
+    pub fn classes(&self) -> &Classes
+        ensures { result.now ≡ self.now.table.classes }
+    {
+        &self.table.classes
+    }
 }
 
 /// Where a method stands that an object has: the place of the object's class, that of the class that defines the
