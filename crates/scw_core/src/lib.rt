@@ -5,6 +5,7 @@
 
 mod class;
 mod core_type;
+mod laws;
 mod main_method;
 mod operator;
 mod plain;
@@ -17,6 +18,7 @@ pub use class::{
     Parameter,
 };
 pub use core_type::{CoreType, Erased};
+pub use laws::{a_run_goes_on, coming_as_far_is_an_order, likeness_goes_on, sameness_goes_on};
 pub use operator::{Literal, Logic, NumericType, Op, Primitive, RunMethod, TextId, Width};
 pub use plain::{Path, Plain, PlainParameter};
 pub use program::{
