@@ -5,3 +5,4 @@ pub mod Systems
 mod EntryLemmas
 pub mod Small
 mod Examples
+mod ObjectExamples

@@ -1,16 +1,20 @@
 -- Small programs, written as core trees: one object whose methods are given.
-use Rattle.std.proofs.Common.{ℕ, List, [], ◌∷◌, false, None, codes, lit≤}
+use Rattle.std.proofs.Common.{ℕ, ◌+◌, List, [], ◌∷◌, false, None, codes, lit≤}
 use Rattle.scw_text.specs.declared.number.SymId.{SymId}
 use Rattle.scw_text.specs.declared.number.TypeId.{TypeId}
 use Rattle.scw_text.specs.declared.span.Span.{Span}
 use Rattle.scw_core.specs.declared.symbol.TheConstants.{ANY, ANY_REF}
 use Rattle.scw_core.specs.declared.class.Access.TheVariants.{Public}
+use Rattle.scw_core.specs.declared.class.BodyKind.{BodyKind}
 use Rattle.scw_core.specs.declared.class.BodyKind.TheVariants.{Written}
+use Rattle.scw_core.specs.declared.class.ClassKind.{ClassKind}
 use Rattle.scw_core.specs.declared.class.ClassKind.TheVariants.{Object}
 use Rattle.scw_core.specs.declared.class.CoreClass.{CoreClass}
 use Rattle.scw_core.specs.declared.class.Member.{Member}
+use Rattle.scw_core.specs.declared.class.MemberKind.{MemberKind}
 use Rattle.scw_core.specs.declared.class.MemberKind.TheVariants.{Def}
 use Rattle.scw_core.specs.declared.class.Modifiers.{Modifiers}
+use Rattle.scw_core.specs.declared.class.OverridePair.{OverridePair}
 use Rattle.scw_core.specs.declared.class.Parameter.{Parameter}
 use Rattle.scw_core.specs.declared.operator.Literal.TheVariants as literal
 use Rattle.scw_core.specs.declared.operator.Op.{Op}
@@ -41,7 +45,9 @@ here = record { span = nowhere; type_id = type 0 }
 -- ---- the table
 
 abbrev pub types : List CoreType
-types = erased_type int ∷ erased_type void ∷ erased_type (arr (ref (sym 10))) ∷ erased_type unit_ref ∷ []
+types =
+    erased_type int ∷ erased_type void ∷ erased_type (arr (ref (sym 10))) ∷ erased_type unit_ref ∷ erased_type (ref (sym 10)) ∷
+    erased_type (ref (sym 2)) ∷ erased_type (ref (sym 14)) ∷ []
 
 abbrev pub int_type : TypeId
 int_type = type 0
@@ -51,6 +57,15 @@ void_type = type 1
 
 abbrev pub strings_type : TypeId
 strings_type = type 2
+
+abbrev pub string_type : TypeId
+string_type = type 4
+
+abbrev pub object_type : TypeId
+object_type = type 5
+
+abbrev pub exception_type : TypeId
+exception_type = type 6
 
 abbrev pub unmodified : Modifiers
 unmodified = record {
@@ -68,12 +83,12 @@ unmodified = record {
 abbrev pub parameter : ℕ → TypeId → Parameter
 parameter n t = record { symbol = sym n; type_id = t; is_by_name = false }
 
-abbrev pub method : ℕ → Name → List Parameter → TypeId → Member
-method n name xs t = record {
+abbrev pub member : ℕ → Name → MemberKind → List Parameter → TypeId → BodyKind → Member
+member n name kind xs t body = record {
   symbol = sym n;
   name = name;
   name_span = nowhere;
-  kind = Def;
+  kind = kind;
   modifiers = unmodified;
   is_static = false;
   block = None;
@@ -82,26 +97,33 @@ method n name xs t = record {
   type_id = t;
   result = t;
   overrides = [];
-  body = Written;
+  body = body;
+}
+
+abbrev pub method : ℕ → Name → List Parameter → TypeId → Member
+method n name xs t = member n name Def xs t Written
+
+-- A class with its symbol, its name, kind, linearisation, pairs, parameters and members. The next symbol is its `this`.
+abbrev pub class_of : ℕ → Name → ClassKind → List SymId → List OverridePair → List Parameter → List Member → CoreClass
+class_of n name kind line pairs xs ms = record {
+  symbol = sym n;
+  name_span = nowhere;
+  binary_name = name;
+  kind = kind;
+  modifiers = unmodified;
+  block = None;
+  this = sym (n + 1);
+  type_parameters = [];
+  parameters = xs;
+  parents = [];
+  linearisation = line;
+  override_pairs = pairs;
+  members = ms;
 }
 
 -- the object Main, whose symbol is 40 and whose `this` is 41
 abbrev pub main_class : List Member → CoreClass
-main_class ms = record {
-  symbol = sym 40;
-  name_span = nowhere;
-  binary_name = codes "Main$";
-  kind = Object;
-  modifiers = unmodified;
-  block = None;
-  this = sym 41;
-  type_parameters = [];
-  parameters = [];
-  parents = [];
-  linearisation = sym 40 ∷ ANY_REF ∷ ANY ∷ [];
-  override_pairs = [];
-  members = ms;
-}
+main_class ms = class_of 40 (codes "Main$") Object (sym 40 ∷ ANY_REF ∷ ANY ∷ []) [] [] ms
 
 abbrev pub main_head : Head
 main_head = record { symbol = sym 40; name = codes "Main"; kind = symbol.Object; owner = None; upper = type 0 }
@@ -110,10 +132,10 @@ abbrev pub no_prelude : PreludeSymbols
 no_prelude = record { functions = []; some_value = None }
 
 abbrev pub texts : List (List ℕ)
-texts = [] ∷ codes "\n" ∷ codes "f" ∷ []
+texts = [] ∷ codes "\n" ∷ codes "f" ∷ codes "a" ∷ codes "b" ∷ codes "x" ∷ codes "once" ∷ codes "one" ∷ []
 
-abbrev pub table : List Member → Table
-table ms = record { classes = main_class ms ∷ []; heads = main_head ∷ []; types = types; texts = texts; prelude = no_prelude }
+abbrev pub table : List CoreClass → Table
+table ks = record { classes = ks; heads = main_head ∷ []; types = types; texts = texts; prelude = no_prelude }
 
 abbrev pub empty_template : Template
 empty_template = record { prefixes = []; arguments = none; statements = none }
@@ -158,5 +180,10 @@ call m e = node (op.Call (sym m)) (two (local 41) e)
 abbrev pub main_object : Tree
 main_object = node (op.Module (sym 40)) (one (node (op.Literal literal.Unit) none))
 
+-- classes with the bodies of their members and their own templates, and the object Main
+abbrev pub program_of : List CoreClass → List (SymId × Tree) → List (SymId × Template) → Program
+program_of ks bodies templates =
+    record { table = table ks; bodies = bodies; templates = templates; entries = (sym 40, main_object) ∷ [] }
+
 abbrev pub program : List Member → List (SymId × Tree) → Program
-program ms bodies = record { table = table ms; bodies = bodies; templates = (sym 40, empty_template) ∷ []; entries = (sym 40, main_object) ∷ [] }
+program ms bodies = program_of (main_class ms ∷ []) bodies ((sym 40, empty_template) ∷ [])

@@ -2,12 +2,12 @@
 use Rattle.std.specs.Prelude.{ℕ, ◌+◌, ◌-◌, ◌/◌, List, [], ◌∷◌, ◌++◌, Bool, true, false, not, ◌&&◌, cond, Option, Some, None, nat_lt, length, replicate, slice_get, slice_set, ℤ, pos, negsuc}
 use Rattle.std.specs.Int.{w32, cast_signed}
 use Rattle.scw_text.specs.declared.number.SymId.{SymId}
-use Rattle.scw_core.specs.declared.symbol.TheConstants.{GET_MESSAGE, NULL_POINTER_EXCEPTION, ARRAY_INDEX_EXCEPTION, NEGATIVE_SIZE_EXCEPTION}
+use Rattle.scw_core.specs.declared.symbol.TheConstants.{THROWABLE, GET_MESSAGE, NULL_POINTER_EXCEPTION, ARRAY_INDEX_EXCEPTION, NEGATIVE_SIZE_EXCEPTION}
 use Rattle.scw_core.specs.declared.class.CoreClass.{CoreClass}
 use Rattle.scw_core.specs.declared.class.Member.{Member}
 use Rattle.scw_core.specs.declared.class.MemberKind.{MemberKind}
 use Rattle.scw_core.specs.declared.class.MemberKind.TheVariants as kind
-use Rattle.scw_core.specs.Types.{Erased, void, boolean, char, int, long, unit_ref, ref, arr}
+use Rattle.scw_core.specs.Types.{Erased, void, boolean, char, int, long, unit_ref, ref, arr, same_symbol}
 use Rattle.scw_core.specs.Program.{Table, class_of, look}
 use Rattle.scw_core.specs.Erasure.{line_of, erased}
 use Rattle.scw_core.specs.Dispatch.{is_concrete}
@@ -40,13 +40,17 @@ abbrev pub fields_in : Table → List Member → List (SymId × Value)
 fields_in p [] = []
 fields_in p (m ∷ ms) = cond (is_field m && not (is_lazy m.kind)) ((m.symbol, zero_of (erased p m.result)) ∷ fields_in p ms) (fields_in p ms)
 
-abbrev pub fields_of_class : Table → Option CoreClass → List (SymId × Value)
-fields_of_class p None = []
-fields_of_class p (Some k) = fields_in p k.members
+-- of the built-in classes Throwable alone has one
+abbrev pub built_in_fields : SymId → List (SymId × Value)
+built_in_fields c = cond (same_symbol c THROWABLE) ((GET_MESSAGE, null_v) ∷ []) []
+
+abbrev pub fields_of_class : Table → SymId → Option CoreClass → List (SymId × Value)
+fields_of_class p c None = built_in_fields c
+fields_of_class p c (Some k) = fields_in p k.members
 
 unfoldable pub fields_along : Table → List SymId → List (SymId × Value)
 fields_along p [] = []
-fields_along p (c ∷ cs) = fields_of_class p (class_of p c) ++ fields_along p cs
+fields_along p (c ∷ cs) = fields_of_class p c (class_of p c) ++ fields_along p cs
 
 -- ---- units of a heap
 
@@ -71,13 +75,13 @@ abbrev pub count_fields : List Member → ℕ
 count_fields [] = 0
 count_fields (m ∷ ms) = cond (is_field m) 1 0 + count_fields ms
 
-abbrev pub count_of_class : Option CoreClass → ℕ
-count_of_class None = 0
-count_of_class (Some k) = count_fields k.members
+abbrev pub count_of_class : SymId → Option CoreClass → ℕ
+count_of_class c None = length (built_in_fields c)
+count_of_class c (Some k) = count_fields k.members
 
 abbrev pub count_along : Table → List SymId → ℕ
 count_along p [] = 0
-count_along p (c ∷ cs) = count_of_class (class_of p c) + 1 + count_along p cs
+count_along p (c ∷ cs) = count_of_class c (class_of p c) + 1 + count_along p cs
 
 -- an object has its fields, and one more for each class of its linearisation
 unfoldable pub object_units : Table → SymId → ℕ
