@@ -6,3 +6,4 @@ mod EntryLemmas
 pub mod Small
 mod Examples
 mod ObjectExamples
+mod NodeExamples

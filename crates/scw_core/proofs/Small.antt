@@ -1,5 +1,5 @@
 -- Small programs, written as core trees: one object whose methods are given.
-use Rattle.std.proofs.Common.{ℕ, ◌+◌, List, [], ◌∷◌, false, None, codes, lit≤}
+use Rattle.std.proofs.Common.{ℕ, ◌+◌, List, [], ◌∷◌, false, Some, None, codes, lit≤}
 use Rattle.scw_text.specs.declared.number.SymId.{SymId}
 use Rattle.scw_text.specs.declared.number.TypeId.{TypeId}
 use Rattle.scw_text.specs.declared.span.Span.{Span}
@@ -47,7 +47,7 @@ here = record { span = nowhere; type_id = type 0 }
 abbrev pub types : List CoreType
 types =
     erased_type int ∷ erased_type void ∷ erased_type (arr (ref (sym 10))) ∷ erased_type unit_ref ∷ erased_type (ref (sym 10)) ∷
-    erased_type (ref (sym 2)) ∷ erased_type (ref (sym 14)) ∷ []
+    erased_type (ref (sym 2)) ∷ erased_type (ref (sym 14)) ∷ erased_type (arr int) ∷ erased_type (ref (sym 92)) ∷ []
 
 abbrev pub int_type : TypeId
 int_type = type 0
@@ -128,14 +128,19 @@ main_class ms = class_of 40 (codes "Main$") Object (sym 40 ∷ ANY_REF ∷ ANY �
 abbrev pub main_head : Head
 main_head = record { symbol = sym 40; name = codes "Main"; kind = symbol.Object; owner = None; upper = type 0 }
 
-abbrev pub no_prelude : PreludeSymbols
-no_prelude = record { functions = []; some_value = None }
+-- the classes of functions are 90 and 92, and the field of Some is 95
+abbrev pub prelude : PreludeSymbols
+prelude = record { functions = record { class = sym 90; apply = sym 91 } ∷ record { class = sym 92; apply = sym 93 } ∷ []; some_value = Some (sym 95) }
+
+-- the class 58 stands in the class 56
+abbrev pub inner_head : Head
+inner_head = record { symbol = sym 58; name = codes "O.I"; kind = symbol.Class; owner = Some (sym 56); upper = type 0 }
 
 abbrev pub texts : List (List ℕ)
-texts = [] ∷ codes "\n" ∷ codes "f" ∷ codes "a" ∷ codes "b" ∷ codes "x" ∷ codes "once" ∷ codes "one" ∷ []
+texts = [] ∷ codes "\n" ∷ codes "f" ∷ codes "a" ∷ codes "b" ∷ codes "x" ∷ codes "once" ∷ codes "one" ∷ codes "nc" ∷ codes "A/fun" ∷ codes "A.fun" ∷ []
 
 abbrev pub table : List CoreClass → Table
-table ks = record { classes = ks; heads = main_head ∷ []; types = types; texts = texts; prelude = no_prelude }
+table ks = record { classes = ks; heads = main_head ∷ inner_head ∷ []; types = types; texts = texts; prelude = prelude }
 
 abbrev pub empty_template : Template
 empty_template = record { prefixes = []; arguments = none; statements = none }
