@@ -32,7 +32,7 @@ use Rattle.scw_core.specs.State.{put, module_at, static_at, values_of, read_slot
 use Rattle.scw_core.specs.Number.{difference}
 use Rattle.scw_core.specs.Frame.{under, with_given}
 use Rattle.scw_core.specs.Object.{fields_along, object_units, make, throw_new, at_reference, in_range, array_new}
-use Rattle.scw_core.specs.TypeTest.{value_is, coerced, coerce_all}
+use Rattle.scw_core.specs.TypeTest.{element_under, value_is, coerced, coerce_all}
 use Rattle.scw_core.specs.Text.{binary_name, descriptor, message_in}
 use Rattle.scw_core.specs.Call.{enter, run_body, get_lazy, run_member, run_found, call_built_in, call_member, apply_function, call_on, direct_on, super_on, static_on}
 use Rattle.scw_core.specs.Create.{inner_bound, create, new_inner, get_module}
@@ -132,7 +132,9 @@ abbrev of_types : List Tree
 of_types =
     unary (op.IsA string_type) (text 3) ∷ unary (op.IsA object_type) (number 5) ∷ not_so (unary (op.IsA string_type) null) ∷
     not_so (unary (op.IsA string_type) (number 5)) ∷ is_int (unary (op.Cast int_type) null) (number 0) ∷
-    is_int (unary (op.Unbox int_type) (unary op.Box (number 5))) (number 5) ∷ is_equal (unary (op.Coerce string_type) null) null ∷ []
+    is_int (unary (op.Unbox int_type) (unary op.Box (number 5))) (number 5) ∷ is_equal (unary (op.Coerce string_type) null) null ∷
+    unary (op.IsA (type 9)) (unary (op.ArrayNew string_type) (number 1)) ∷
+    not_so (unary (op.IsA (type 9)) (unary (op.ArrayNew int_type) (number 1))) ∷ []
 
 -- ---- arrays, cells, static fields
 
@@ -269,5 +271,5 @@ shown :
     × AllTrue of_patterns 400
     × AllTrue of_nesting 400
     × AllTrue of_bridges 400
-unfolding look core.class_of head_of type_at text_at in_classes built_in_line built_in_name class_erased built_in_member erasure.line_of derives is_trait dominator upper_erased erased_along erased parameter_erased signature signature_of within best dispatch_in dispatch after super_dispatch superclass_of mixins_of put module_at static_at values_of read_slot write_slot state.bind bind_all difference under with_given fields_along object_units make throw_new at_reference in_range array_new value_is coerced coerce_all binary_name descriptor message_in enter run_body get_lazy run_member run_found call_built_in call_member apply_function call_on direct_on super_on static_on inner_bound create new_inner get_module equal_act text_act concat_second concat_act substring primitive_act act begin_tree go_types begin_pattern chosen after_super with_prefix begin_template begin_mixin begin give_back give_to react land_act land resume step steps written_by seen member_entered start source_run same_erased utf8
+unfolding look core.class_of head_of type_at text_at in_classes built_in_line built_in_name class_erased built_in_member erasure.line_of derives is_trait dominator upper_erased erased_along erased parameter_erased signature signature_of within best dispatch_in dispatch after super_dispatch superclass_of mixins_of put module_at static_at values_of read_slot write_slot state.bind bind_all difference under with_given fields_along object_units make throw_new at_reference in_range array_new element_under value_is coerced coerce_all binary_name descriptor message_in enter run_body get_lazy run_member run_found call_built_in call_member apply_function call_on direct_on super_on static_on inner_bound create new_inner get_module equal_act text_act concat_second concat_act substring primitive_act act begin_tree go_types begin_pattern chosen after_super with_prefix begin_template begin_mixin begin give_back give_to react land_act land resume step steps written_by seen member_entered start source_run same_erased utf8
 shown = (refl, refl, refl, refl, refl, refl, refl, refl, refl, refl)

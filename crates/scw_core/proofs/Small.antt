@@ -47,7 +47,7 @@ here = record { span = nowhere; type_id = type 0 }
 abbrev pub types : List CoreType
 types =
     erased_type int ∷ erased_type void ∷ erased_type (arr (ref (sym 10))) ∷ erased_type unit_ref ∷ erased_type (ref (sym 10)) ∷
-    erased_type (ref (sym 2)) ∷ erased_type (ref (sym 14)) ∷ erased_type (arr int) ∷ erased_type (ref (sym 92)) ∷ []
+    erased_type (ref (sym 2)) ∷ erased_type (ref (sym 14)) ∷ erased_type (arr int) ∷ erased_type (ref (sym 92)) ∷ erased_type (arr (ref (sym 2))) ∷ []
 
 abbrev pub int_type : TypeId
 int_type = type 0

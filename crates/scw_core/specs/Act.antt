@@ -15,8 +15,8 @@ use Rattle.scw_core.specs.Erasure.{erased}
 use Rattle.scw_core.specs.State.{Value, unit_v, boolean_v, char_v, int_v, null_v, string_v, Env, State, cell, read_slot, write_slot, static_at, same_value, is_null}
 use Rattle.scw_core.specs.Number.{width_of, value_of, int_in, boolean_in, bits_in, numeric_in, complemented, converted, logic_of, equality, plain_text, string_text, index_text, length_value, part, order, literal_value}
 use Rattle.scw_core.specs.Frame.{Wait, negating, text_first, text_second, throws, exits, wrote, Act, done, noting, no_rule, give, or_no_rule, by_bool, under, none_of, one_of, two_of, three_of, some_of}
-use Rattle.scw_core.specs.Object.{make, give_string, throw_new, null_thrown, at_reference, get_field, set_field, in_range, array_get, array_set, array_length, array_new, cell_get, cell_set}
-use Rattle.scw_core.specs.TypeTest.{value_is, coerced}
+use Rattle.scw_core.specs.Object.{make, give_string, throw_new, null_thrown, at_reference, get_field, set_field, in_range, array_get, array_length, array_new, cell_get, cell_set}
+use Rattle.scw_core.specs.TypeTest.{value_is, coerced, array_set}
 use Rattle.scw_core.specs.Call.{call_on, direct_on, super_on, static_on}
 use Rattle.scw_core.specs.Create.{new_object, new_inner, get_module, force_thing}
 

@@ -187,4 +187,4 @@ super_on p c m vs env s =
 unfoldable pub static_on : Program → SymId → List Value → State → Act
 static_on p m vs s =
     or_no_rule (member_of p.table m) (λ d.
-    or_no_rule (look p.bodies m) (λ b. noting (called d.class m) (enter b (locals_of d.member.parameters) vs [] None s)))
+    or_no_rule (look p.bodies m) (λ b. enter b (locals_of d.member.parameters) vs [] None s))

@@ -145,10 +145,6 @@ abbrev pub array_get : Table → ℕ → State → ℕ → Thing → Act
 array_get p i s r (array e vs) = in_range p ARRAY_INDEX_EXCEPTION (length vs) i s (or_no_rule (slice_get vs i) (λ v. give v s))
 array_get p i s r _ = no_rule
 
-abbrev pub array_set : Table → ℕ → Value → State → ℕ → Thing → Act
-array_set p i v s r (array e vs) = in_range p ARRAY_INDEX_EXCEPTION (length vs) i s (give unit_v (with_thing r (array e (slice_set vs i v)) s))
-array_set p i v s r _ = no_rule
-
 abbrev pub array_length : State → ℕ → Thing → Act
 array_length s r (array e vs) = give (length_value vs) s
 array_length s r _ = no_rule
