@@ -97,14 +97,10 @@ path_erased p go (this_path c) = class_erased c
 path_erased p go (object_path o) = class_erased o
 path_erased p go (select_path q s) = upper_erased p go s
 
-abbrev pub class_type_erased : SymId → List Erased → Erased
-class_type_erased c [] = class_erased c
-class_type_erased c (e ∷ es) = cond (same_symbol c ARRAY) (arr e) (class_erased c)
-
 -- A type, by what a bound erases to that it names.
 unfoldable mutual
   pub within : Table → (Plain → Erased) → Plain → Erased
-  within p go (cls q c ts) = class_type_erased c (all_within p go ts)
+  within p go (cls q c ts) = class_within p go (same_symbol c ARRAY) c ts
   within p go (mem q s) = upper_erased p go s
   within p go (par s) = upper_erased p go s
   within p go (sing q) = path_erased p go q
@@ -115,6 +111,12 @@ unfoldable mutual
   within p go (bounds t u) = within p go u
   within p go (has name) = ref ANY_REF
   within p go unknown = ref ANY_REF
+
+  -- of a class the arguments count where it is Array
+  pub class_within : Table → (Plain → Erased) → Bool → SymId → Plains → Erased
+  class_within p go is_array c no_plains = class_erased c
+  class_within p go true c (more_plains t ts) = arr (within p go t)
+  class_within p go false c (more_plains t ts) = class_erased c
 
   pub all_within : Table → (Plain → Erased) → Plains → List Erased
   all_within p go no_plains = []
