@@ -1,0 +1,7 @@
+pub mod OutcomeLemmas
+pub mod RunLemmas
+pub mod NumberLemmas
+pub mod TableLemmas
+pub mod LexingLemmas
+pub mod FoundLemmas
+pub mod LayoutLemmas

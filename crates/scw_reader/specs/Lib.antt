@@ -1,0 +1,5 @@
+pub mod Character
+pub mod Token
+pub mod Layout
+pub mod Outcome
+pub mod Lexing
