@@ -1,3 +1,4 @@
+pub mod TurnLemmas
 pub mod OutcomeLemmas
 pub mod RunLemmas
 pub mod NumberLemmas

@@ -3,3 +3,12 @@ pub mod Token
 pub mod Layout
 pub mod Outcome
 pub mod Lexing
+pub mod Syntax
+pub mod View
+pub mod Grammar
+pub mod Limits
+pub mod Parser
+pub mod Reading
+pub mod PartView
+pub mod Nests
+pub mod ReadingSource

@@ -3,12 +3,23 @@
 //! It knows no types of expressions and no scopes: it reads what the grammar and the limits allow, and nothing else.
 #![tactic(auto)]
 
+mod atom;
+mod block;
 mod class;
+mod cursor;
+mod expression;
 mod failure;
+mod grammar;
 mod layout;
 mod lexing;
+mod limit;
+mod method;
 mod number;
+mod operation;
 mod token;
+mod tree;
 
+pub use limit::{MAX_BYTES, MAX_DEPTH, MAX_NESTING, MAX_PARAMETERS};
 pub use layout::{Tokens, read_tokens};
 pub use token::{Sign, Token, Word};
+pub use tree::{Atom, Expression, Method, Operator, Parameter, Product, Source, Statement, TypeName};
