@@ -1,5 +1,5 @@
 -- The grammar: the tokens of each tree, one equation for each form of a production. `f · g` is f and then g.
-use Rattle.std.specs.Prelude.{ℕ, Bool, true, false, List, [], ◌∷◌}
+use Rattle.std.specs.Prelude.{Bool, true, false, List, [], ◌∷◌}
 use Rattle.scw_reader.specs.declared.token.Word.{Word}
 use Rattle.scw_reader.specs.declared.token.Word.TheVariants as w
 use Rattle.scw_reader.specs.declared.token.Sign.{Sign}
@@ -11,7 +11,6 @@ use Rattle.scw_reader.specs.declared.tree.TypeName.TheVariants as type
 use Rattle.scw_reader.specs.declared.tree.Operator.{Operator}
 use Rattle.scw_reader.specs.declared.tree.Operator.TheVariants as operator
 use Rattle.scw_reader.specs.declared.tree.Parameter.{Parameter}
-use Rattle.scw_reader.specs.Syntax as syntax
 use Rattle.scw_reader.specs.Syntax.{Name, Expression, Product, Products, Atom, Atoms, Expressions, Statement, Statements, Method, Source}
 use Rattle.scw_reader.specs.Syntax.{sum, operation, if_else, while_do, block, assign, product, int, long, truth, text, name, call, print, paren, val_def, var_def, plain}
 use Rattle.scw_reader.specs.Syntax.{no_products, more_products, no_atoms, more_atoms, no_expressions, more_expressions, no_statements, more_statements}

@@ -3,7 +3,7 @@
 use Rattle.std.specs.Prelude.{ℕ, suc, ◌+◌, ◌≤◌, max, List, [], ◌∷◌, length}
 use Rattle.scw_reader.specs.declared.tree.Parameter.{Parameter}
 use Rattle.scw_reader.specs.declared.limit.TheConstants.{MAX_NESTING, MAX_DEPTH, MAX_PARAMETERS}
-use Rattle.scw_reader.specs.Syntax.{Name, Expression, Product, Products, Atom, Atoms, Expressions, Statement, Statements, Method, Source}
+use Rattle.scw_reader.specs.Syntax.{Expression, Product, Products, Atom, Atoms, Expressions, Statement, Statements, Method, Source}
 use Rattle.scw_reader.specs.Syntax.{sum, operation, if_else, while_do, block, assign, product, int, long, truth, text, name, call, print, paren, val_def, var_def, plain}
 use Rattle.scw_reader.specs.Syntax.{no_products, more_products, no_atoms, more_atoms, no_expressions, more_expressions, no_statements, more_statements}
 

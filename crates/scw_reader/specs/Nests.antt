@@ -1,5 +1,5 @@
 -- A function value that reads an expression which fits so many levels.
-use Rattle.std.specs.Prelude.{ℕ, Result, List}
+use Rattle.std.specs.Prelude.{ℕ, Result}
 use Rattle.std.specs.declared.alloc.Global.{Global}
 use denote.Ref.{MutBor}
 use Rattle.scw_reader.specs.declared.cursor.Cursor.{Cursor}

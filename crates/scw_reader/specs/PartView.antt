@@ -1,5 +1,4 @@
 -- What the parts of a block stand for.
-use Rattle.std.specs.Prelude.{ℕ, List}
 use Rattle.scw_reader.specs.Syntax as syntax
 use Rattle.scw_reader.specs.View.{expression_of, statement_of}
 use Rattle.scw_reader.specs.Reading as reading

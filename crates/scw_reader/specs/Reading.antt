@@ -1,6 +1,6 @@
 -- How a tree is read from tokens. No public clause cites this file: it says of each step of the reader what it gives, and
 -- proofs/ReadingLemmas.antt says that this is the tree whose tokens they are.
-use Rattle.std.specs.Prelude.{◌≡◌, ℕ, zero, suc, Bool, true, false, if◌then◌else◌, List, [], ◌∷◌, ◌++◌, length, Option, Some, None}
+use Rattle.std.specs.Prelude.{ℕ, zero, suc, true, false, if◌then◌else◌, List, [], ◌∷◌, ◌++◌, length, Option, Some, None}
 use Rattle.scw_reader.specs.declared.token.Word.{Word}
 use Rattle.scw_reader.specs.declared.token.Word.TheVariants as w
 use Rattle.scw_reader.specs.declared.token.Sign.{Sign}
@@ -9,14 +9,12 @@ use Rattle.scw_reader.specs.declared.token.Token.{Token}
 use Rattle.scw_reader.specs.declared.token.Token.TheVariants as token
 use Rattle.scw_reader.specs.declared.tree.TypeName.{TypeName}
 use Rattle.scw_reader.specs.declared.tree.Operator.{Operator}
-use Rattle.scw_reader.specs.declared.tree.Parameter.{Parameter}
-use Rattle.scw_reader.specs.declared.limit.TheConstants.{MAX_NESTING}
 use Rattle.scw_reader.specs.declared.cursor.Start.{Start}
 use Rattle.scw_reader.specs.declared.cursor.Start.TheVariants as start
-use Rattle.scw_reader.specs.Syntax.{Name, Expression, Product, Atom, Statement, Method, Source}
+use Rattle.scw_reader.specs.Syntax.{Name, Expression, Product, Atom, Statement}
 use Rattle.scw_reader.specs.Syntax.{sum, operation, if_else, while_do, block, assign, product, int, long, truth, text, name, call, print, paren, val_def, var_def, plain}
 use Rattle.scw_reader.specs.View.{products_of, atoms_of, expressions_of, statements_of}
-use Rattle.scw_reader.specs.Parser.{Parser, ◌>>=◌, ◌>>◌, ◌<$>◌, pure, refuse, is_sign, next, expect_word, expect_sign, eat_word, eat_sign, expect_name, expect_type, eat_operator, chain}
+use Rattle.scw_reader.specs.Parser.{Parser, ◌>>=◌, ◌>>◌, ◌<$>◌, pure, refuse, is_sign, next, expect_word, expect_sign, eat_sign, expect_name, expect_type, eat_operator, chain}
 
 -- ---- the form of expression or statement that the tokens begin
 

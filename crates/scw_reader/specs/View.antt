@@ -1,5 +1,5 @@
 -- The syntax tree that a value of the program stands for.
-use Rattle.std.specs.Prelude.{ℕ, List, [], ◌∷◌, map}
+use Rattle.std.specs.Prelude.{List, [], ◌∷◌, map}
 use Rattle.scw_reader.specs.Syntax as syntax
 use Rattle.scw_reader.specs.Syntax.{Products, no_products, more_products, Atoms, no_atoms, more_atoms, Expressions, no_expressions, more_expressions, Statements, no_statements, more_statements}
 use Rattle.scw_reader.specs.declared.tree.Expression.{Expression}

@@ -19,7 +19,9 @@ mod operation;
 mod token;
 mod tree;
 
-pub use limit::{MAX_BYTES, MAX_DEPTH, MAX_NESTING, MAX_PARAMETERS};
 pub use layout::{Tokens, read_tokens};
+pub use limit::{MAX_BYTES, MAX_DEPTH, MAX_NESTING, MAX_PARAMETERS};
 pub use token::{Sign, Token, Word};
-pub use tree::{Atom, Expression, Method, Operator, Parameter, Product, Source, Statement, TypeName};
+pub use tree::{
+    Atom, Expression, Method, Operator, Parameter, Product, Source, Statement, TypeName,
+};
