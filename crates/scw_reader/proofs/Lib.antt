@@ -6,3 +6,7 @@ pub mod TableLemmas
 pub mod LexingLemmas
 pub mod FoundLemmas
 pub mod LayoutLemmas
+pub mod ParserLemmas
+pub mod ChainLemmas
+pub mod TreeLemmas
+pub mod SoundLemmas
