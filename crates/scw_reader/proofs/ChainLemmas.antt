@@ -90,7 +90,7 @@ unfolding eat_sign
 sign_sees s rest same = ap (λ b. cond {A = Option (Bool × List Token)} b (Some (true, rest)) (Some (false, token.Sign s ∷ rest))) same
 
 -- what the chain goes on with ends an item
-ends_item : {A : Type 0} (s : Sign) (put : A → Tokens) (Ends : List Token → Type 0) → ((ts : List Token) → Ends (token.Sign s ∷ ts)) → (more : List A) (rest : List Token) → Ends rest → Ends (chain_tokens s put more rest)
+pub ends_item : {A : Type 0} (s : Sign) (put : A → Tokens) (Ends : List Token → Type 0) → ((ts : List Token) → Ends (token.Sign s ∷ ts)) → (more : List A) (rest : List Token) → Ends rest → Ends (chain_tokens s put more rest)
 ends_item s put Ends separates [] rest ends = ends
 ends_item s put Ends separates (x ∷ xs) rest ends = separates (put x (chain_tokens s put xs rest))
 
@@ -111,7 +111,7 @@ chain_from_found {A} s item put size n Ends complete separates same (suc k) (x �
     ∙ chain_from_found s item put size n Ends complete separates same k xs (found ++ x ∷ []) rest within.1 ends lacks (omega arith)
     ∙ ap (λ x. let p : List A × List Token = (x, rest) in Some p) (append_assoc found (x ∷ []) xs)
 
-few_items : {A : Type 0} (s : Sign) (put : A → Tokens) → Grows put → (more : List A) (rest : List Token) → length more ≤ length (chain_tokens s put more rest)
+pub few_items : {A : Type 0} (s : Sign) (put : A → Tokens) → Grows put → (more : List A) (rest : List Token) → length more ≤ length (chain_tokens s put more rest)
 few_items s put grows [] rest = omega arith
 few_items s put grows (x ∷ xs) rest = omega (arith, few_items s put grows xs rest, grows x (chain_tokens s put xs rest))
 

@@ -10,3 +10,5 @@ pub mod ParserLemmas
 pub mod ChainLemmas
 pub mod TreeLemmas
 pub mod SoundLemmas
+pub mod EndLemmas
+pub mod CompleteLemmas

@@ -218,3 +218,21 @@ eat_operator_is (t ∷ ts) p h = by (operator_in t) refl h
 pub eat_operator-sign : (o : Operator) (ts : List Token) → eat_operator (token.Sign (operator_sign o) ∷ ts) ≡ Some (Some o, ts)
 unfolding eat_operator
 eat_operator-sign o ts = ap (λ x. operated x (token.Sign (operator_sign o)) ts) (operator_of-sign o)
+
+-- ---- what is taken
+
+-- a step that gives something, and then the others
+pub then_step : {A B : Type 0} (o : Option (A × List Token)) (f : A → Parser B) (x : A) (ts : List Token) (r : B × List Token) → o ≡ Some (x, ts) → f x ts ≡ Some r → and_then o f ≡ Some r
+then_step o f x ts r e h = ap (λ u. and_then u f) e ∙ h
+
+pub takes_word : (w : Word) (rest : List Token) → same_word w w ≡ true → expect_word w (token.Word w ∷ rest) ≡ Some (tt, rest)
+unfolding expect_word
+takes_word w rest same = ap (λ b. cond {A = Option (Unit {0} × List Token)} b (Some (tt, rest)) None) same
+
+pub takes_sign : (s : Sign) (rest : List Token) → same_sign s s ≡ true → expect_sign s (token.Sign s ∷ rest) ≡ Some (tt, rest)
+unfolding expect_sign
+takes_sign s rest same = ap (λ b. cond {A = Option (Unit {0} × List Token)} b (Some (tt, rest)) None) same
+
+pub takes_name : (x : Name) (rest : List Token) → expect_name (token.Name x ∷ rest) ≡ Some (x, rest)
+unfolding expect_name
+takes_name x rest = refl
