@@ -12,3 +12,4 @@ pub mod TreeLemmas
 pub mod SoundLemmas
 pub mod EndLemmas
 pub mod CompleteLemmas
+pub mod SourceLemmas

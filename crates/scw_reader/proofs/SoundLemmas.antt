@@ -27,7 +27,7 @@ abbrev pub Taken : {A : Type 0} → (A → Tokens) → (A → ℕ) → ℕ → L
 Taken put size n ts r = (ts ≡ put r.0 r.1) × (size r.0 ≤ n)
 
 -- what the last step gives is what all give
-finish : {A : Type 0} (P : A × List Token → Type 0) (a : A) (ts : List Token) (r : A × List Token) → ◌≡◌ {A = Option (A × List Token)} (Some (a, ts)) (Some r) → P (a, ts) → P r
+pub finish : {A : Type 0} (P : A × List Token → Type 0) (a : A) (ts : List Token) (r : A × List Token) → ◌≡◌ {A = Option (A × List Token)} (Some (a, ts)) (Some r) → P (a, ts) → P r
 finish P a ts r h p = subst P (same_Some _ _ h) p
 
 -- an expression in its closing parenthesis, and in both
