@@ -13,3 +13,4 @@ pub mod SoundLemmas
 pub mod EndLemmas
 pub mod CompleteLemmas
 pub mod SourceLemmas
+pub mod SourceFoundLemmas

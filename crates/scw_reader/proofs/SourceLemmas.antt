@@ -26,7 +26,7 @@ body_sound = expression_sound MAX_NESTING
 
 -- ---- parameters, which have no size
 
-abbrev no_size : {A : Type 0} → A → ℕ
+abbrev pub no_size : {A : Type 0} → A → ℕ
 no_size x = 0
 
 parameter_is : (ts : List Token) (r : Parameter × List Token) → parameter_at ts ≡ Some r → Taken parameter_tokens no_size 0 ts r
@@ -41,11 +41,11 @@ parameter_is ts r h =
 parameter_sound : Sound parameter_at parameter_tokens no_size 0
 parameter_sound = record { is = parameter_is }
 
-more_parameters_tokens-chain : (ps : List Parameter) (rest : List Token) → more_parameters_tokens ps rest ≡ chain_tokens s.Comma parameter_tokens ps rest
+pub more_parameters_tokens-chain : (ps : List Parameter) (rest : List Token) → more_parameters_tokens ps rest ≡ chain_tokens s.Comma parameter_tokens ps rest
 more_parameters_tokens-chain [] rest = refl
 more_parameters_tokens-chain (p ∷ ps) rest = ap (λ r. token.Sign s.Comma ∷ parameter_tokens p r) (more_parameters_tokens-chain ps rest)
 
-abbrev closed_parameters_tokens : List Parameter → Tokens
+abbrev pub closed_parameters_tokens : List Parameter → Tokens
 closed_parameters_tokens ps = parameters_tokens ps · sign s.CloseParen
 
 parameters_is : (ts : List Token) (r : List Parameter × List Token) → parameters_at ts ≡ Some r → ts ≡ closed_parameters_tokens r.0 r.1
@@ -70,11 +70,11 @@ parameters_is ts r h =
 -- ---- methods
 
 -- a method without its `def`
-abbrev rest_tokens : Method → Tokens
+abbrev pub rest_tokens : Method → Tokens
 rest_tokens m =
     named m.name · sign s.OpenParen · parameters_tokens m.parameters · sign s.CloseParen · sign s.Colon · type_tokens m.result · sign s.Assign · expression_tokens m.body
 
-abbrev method_nesting : Method → ℕ
+abbrev pub method_nesting : Method → ℕ
 method_nesting m = expression_nesting m.body
 
 method_is : (ts : List Token) (r : Method × List Token) → method_at ts ≡ Some r → Taken rest_tokens method_nesting MAX_NESTING ts r
@@ -102,18 +102,18 @@ def_is ts r h =
 def_sound : Sound def_at method_tokens method_nesting MAX_NESTING
 def_sound = record { is = def_is }
 
-after_tokens-chain : (ms : List Method) (rest : List Token) → after_tokens ms rest ≡ chain_tokens s.Semicolon method_tokens ms rest
+pub after_tokens-chain : (ms : List Method) (rest : List Token) → after_tokens ms rest ≡ chain_tokens s.Semicolon method_tokens ms rest
 after_tokens-chain [] rest = refl
 after_tokens-chain (m ∷ ms) rest = ap (λ r. token.Sign s.Semicolon ∷ method_tokens m r) (after_tokens-chain ms rest)
 
-methods_nesting-most : (ms : List Method) → methods_nesting ms ≡ most method_nesting ms
+pub methods_nesting-most : (ms : List Method) → methods_nesting ms ≡ most method_nesting ms
 methods_nesting-most [] = refl
 methods_nesting-most (m ∷ ms) = ap (max (expression_nesting m.body)) (methods_nesting-most ms)
 
 -- ---- `main`
 
 -- `(args: Array[String])`
-abbrev clause_tokens : Tokens
+abbrev pub clause_tokens : Tokens
 clause_tokens =
     sign s.OpenParen · word w.Args · sign s.Colon · word w.Array · sign s.OpenBracket · word w.String · sign s.CloseBracket · sign s.CloseParen
 
@@ -132,7 +132,7 @@ clause_is ts r h =
         (expect_sign_is s.CloseBracket g.0.1 k.0 k.1 ∙ ap (sign s.CloseBracket) (expect_sign_is s.CloseParen k.0.1 r k.2)))))))
 
 -- `main` without `def main`
-abbrev main_rest_tokens : Expression → Tokens
+abbrev pub main_rest_tokens : Expression → Tokens
 main_rest_tokens e = clause_tokens · sign s.Colon · word w.Unit · sign s.Assign · expression_tokens e
 
 main_is : (ts : List Token) (r : Expression × List Token) → main_at ts ≡ Some r → Taken main_rest_tokens expression_nesting MAX_NESTING ts r
