@@ -1,11 +1,11 @@
 -- Parsers that give the tree whose tokens they take, and chains of them.
-use Rattle.std.proofs.Common.{◌≡◌, ℕ, zero, suc, ◌+◌, ◌<◌, ◌≤◌, Bool, true, false, cond, List, [], ◌∷◌, ◌++◌, length, refl, sym, ap, subst, ◌∙◌, arith, rules, Option, Some, None, ◌⊎◌, inl, inr, append_assoc, append-nil}
+use Rattle.std.proofs.Common.{◌≡◌, ℕ, zero, suc, ◌≤◌, Bool, true, false, cond, List, [], ◌∷◌, ◌++◌, length, refl, sym, ap, subst, ◌∙◌, arith, Option, Some, ◌⊎◌, inl, inr, append_assoc, append-nil}
 use Rattle.std.proofs.lemmas.Option.{same_Some}
 use Rattle.scw_reader.specs.declared.token.Sign.{Sign}
 use Rattle.scw_reader.specs.declared.token.Token.{Token}
 use Rattle.scw_reader.specs.declared.token.Token.TheVariants as token
 use Rattle.scw_reader.specs.Grammar.{Tokens, ◌·◌, nothing, sign}
-use Rattle.scw_reader.specs.Parser.{Parser, and_then, ◌>>=◌, pure, same_sign, is_sign, eat_sign, chain_from, chain}
+use Rattle.scw_reader.specs.Parser.{Parser, and_then, ◌>>=◌, pure, same_sign, eat_sign, chain_from, chain}
 use Rattle.scw_reader.proofs.ParserLemmas.{after_step, Eaten, eat_sign_is}
 
 -- ---- what is said of a parser

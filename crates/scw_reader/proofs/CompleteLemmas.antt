@@ -1,23 +1,21 @@
 -- An expression that fits the levels is read from its tokens, before a rest that ends it.
-use Rattle.std.proofs.Common.{◌≡◌, ℕ, zero, suc, ◌+◌, ◌<◌, ◌≤◌, max, Bool, true, false, cond, List, [], ◌∷◌, ◌++◌, length, refl, sym, ap, subst, ◌∙◌, arith, rules, Option, Some, None, append_assoc, append-nil}
+use Rattle.std.proofs.Common.{◌≡◌, ℕ, zero, suc, ◌<◌, ◌≤◌, true, false, List, [], ◌∷◌, ◌++◌, length, refl, sym, ap, subst, ◌∙◌, arith, Some, None, append_assoc, append-nil}
 use Rattle.scw_reader.specs.declared.token.Word.TheVariants as w
 use Rattle.scw_reader.specs.declared.token.Sign.TheVariants as s
 use Rattle.scw_reader.specs.declared.token.Token.{Token}
 use Rattle.scw_reader.specs.declared.token.Token.TheVariants as token
 use Rattle.scw_reader.specs.declared.tree.TypeName.{TypeName}
 use Rattle.scw_reader.specs.declared.tree.Operator.{Operator}
-use Rattle.scw_reader.specs.declared.cursor.Start.{Start}
-use Rattle.scw_reader.specs.declared.cursor.Start.TheVariants as start
-use Rattle.scw_reader.specs.Syntax.{Name, Expression, Product, Products, Atom, Atoms, Expressions, Statement, Statements}
+use Rattle.scw_reader.specs.Syntax.{Name, Expression, Product, Products, Atom, Atoms, Statement, Statements}
 use Rattle.scw_reader.specs.Syntax.{sum, operation, if_else, while_do, block, assign, product, int, long, truth, text, name, call, print, paren, val_def, var_def, plain}
-use Rattle.scw_reader.specs.View.{products_of, atoms_of, expressions_of, statements_of}
-use Rattle.scw_reader.specs.Grammar.{Tokens, ◌·◌, operator_sign, type_word, expression_tokens, products_tokens, product_tokens, atoms_tokens, atom_tokens, arguments_tokens, more_arguments_tokens, statements_tokens, statement_tokens}
+use Rattle.scw_reader.specs.View.{expressions_of, statements_of}
+use Rattle.scw_reader.specs.Grammar.{operator_sign, type_word, expression_tokens, products_tokens, product_tokens, atoms_tokens, atom_tokens}
 use Rattle.scw_reader.specs.Limits.{expression_nesting, products_nesting, product_nesting, atoms_nesting, atom_nesting, expressions_nesting, statements_nesting, statement_nesting}
-use Rattle.scw_reader.specs.Parser.{Parser, and_then, ◌>>=◌, eat_sign, chain}
-use Rattle.scw_reader.specs.Reading.{start_of, arguments, inner, in_parens, name_atom, atom, product_from, product_at, sum_from, operation_at, conditional, repetition, assignment, definition, last_or_plain, val, var, part_by, part, parts_by, parts_from, parts, block_at, level_by, level, expression_at, Part, statement_part, last_part}
+use Rattle.scw_reader.specs.Parser.{Parser, eat_sign, chain}
+use Rattle.scw_reader.specs.Reading.{start_of, arguments, inner, in_parens, name_atom, atom, product_from, product_at, sum_from, operation_at, conditional, repetition, assignment, definition, last_or_plain, val, var, part_by, part, parts_from, parts, block_at, level_by, level, expression_at, Part, statement_part, last_part}
 use Rattle.scw_reader.proofs.ParserLemmas.{then_step, takes_word, takes_sign, takes_name, expect_type-word, eat_operator-sign}
 use Rattle.scw_reader.proofs.ChainLemmas.{Complete, Lacks, chain_tokens, AllWithin, chain_found, sign_sees, ends_item}
-use Rattle.scw_reader.proofs.TreeLemmas.{most, most-within, within-most, atoms_list, atoms_of-list, atoms_tokens-of, atoms_nesting-of, products_list, products_of-list, products_tokens-of, products_nesting-of, expressions_list, expressions_of-list, more_arguments_tokens-of, expressions_nesting-of, statements_list, statements_of-list, statements_nesting-of, expression_grows, atom_grows, product_grows, statement_grows}
+use Rattle.scw_reader.proofs.TreeLemmas.{within-most, atoms_list, atoms_of-list, atoms_tokens-of, atoms_nesting-of, products_list, products_of-list, products_tokens-of, products_nesting-of, expressions_list, expressions_of-list, more_arguments_tokens-of, expressions_nesting-of, statements_list, statements_of-list, statements_nesting-of, expression_grows, atom_grows, product_grows, statement_grows}
 use Rattle.scw_reader.proofs.EndLemmas.{EndsAtom, EndsProduct, Ends, times_ends_atom, plus_ends_product, operator_ends_atom, close_paren_ends, comma_ends, semicolon_ends, close_brace_ends, else_ends, products_lack_operator, atoms_lack_operator, atoms_end_atom, products_end_product, expression_lacks_close, form, start_of-expression}
 use Rattle.scw_reader.proofs.SoundLemmas.{closed_tokens, parens_tokens, closed_arguments_tokens, definition_tokens, part_tokens, part_nesting, parts_tokens}
 

@@ -1,5 +1,5 @@
 -- Where an expression ends, and what its first tokens say of its form.
-use Rattle.std.proofs.Common.{◌≡◌, ℕ, Bool, true, false, cond, List, [], ◌∷◌, refl, sym, ap, ◌∙◌, Option, Some, None}
+use Rattle.std.proofs.Common.{◌≡◌, true, false, List, ◌∷◌, refl, Some, None}
 use Rattle.scw_reader.specs.declared.token.Word.TheVariants as w
 use Rattle.scw_reader.specs.declared.token.Sign.TheVariants as s
 use Rattle.scw_reader.specs.declared.token.Token.{Token}
@@ -8,11 +8,11 @@ use Rattle.scw_reader.specs.declared.tree.Operator.{Operator}
 use Rattle.scw_reader.specs.declared.tree.Operator.TheVariants as operator
 use Rattle.scw_reader.specs.declared.cursor.Start.{Start}
 use Rattle.scw_reader.specs.declared.cursor.Start.TheVariants as start
-use Rattle.scw_reader.specs.Syntax.{Name, Expression, Product, Products, Atom, Atoms, Expressions, Statement, Statements}
-use Rattle.scw_reader.specs.Syntax.{sum, operation, if_else, while_do, block, assign, product, int, long, truth, text, name, call, print, paren, val_def, var_def, plain}
+use Rattle.scw_reader.specs.Syntax.{Expression, Products, Atom, Atoms}
+use Rattle.scw_reader.specs.Syntax.{sum, operation, if_else, while_do, block, assign, product, int, long, truth, text, name, call, print, paren}
 use Rattle.scw_reader.specs.Syntax.{no_products, more_products, no_atoms, more_atoms}
 use Rattle.scw_reader.specs.Grammar.{operator_sign, expression_tokens, products_tokens, product_tokens, atoms_tokens, atom_tokens}
-use Rattle.scw_reader.specs.Parser.{is_sign, eat_sign, eat_operator}
+use Rattle.scw_reader.specs.Parser.{eat_sign, eat_operator}
 use Rattle.scw_reader.specs.Reading.{name_start, start_of}
 use Rattle.scw_reader.proofs.ChainLemmas.{Lacks}
 

@@ -14,3 +14,4 @@ pub mod EndLemmas
 pub mod CompleteLemmas
 pub mod SourceLemmas
 pub mod SourceFoundLemmas
+pub mod DepthLemmas

@@ -1,5 +1,5 @@
 -- The steps that every part is made of: what each took, and what it takes.
-use Rattle.std.proofs.Common.{◌≡◌, ℕ, zero, suc, ◌+◌, ◌<◌, ◌≤◌, Bool, true, false, cond, List, [], ◌∷◌, ◌++◌, length, refl, sym, ap, subst, ◌∙◌, IsTrue, arith, rules, Option, Some, None}
+use Rattle.std.proofs.Common.{◌≡◌, Bool, true, false, cond, List, [], ◌∷◌, refl, sym, ap, subst, ◌∙◌, rules, Option, Some, None}
 use denote.Enum.Bare.{same_true}
 use Rattle.std.proofs.lemmas.Option.{same_Some, some_pair_parts}
 use Rattle.scw_reader.proofs.OutcomeLemmas.{passed}
@@ -16,8 +16,8 @@ use Rattle.scw_reader.specs.declared.tree.TypeName.TheVariants as type
 use Rattle.scw_reader.specs.declared.tree.Operator.{Operator}
 use Rattle.scw_reader.specs.declared.tree.Operator.TheVariants as operator
 use Rattle.scw_reader.specs.Syntax.{Name}
-use Rattle.scw_reader.specs.Grammar.{Tokens, type_word, operator_sign, sign, ◌·◌, nothing}
-use Rattle.scw_reader.specs.Parser.{Parser, and_then, ◌>>=◌, pure, same_word, same_sign, is_word, is_sign, next, expect_word, expect_sign, eat_word, eat_sign, expect_name, expect_type, eat_operator, operated, operator_in, operator_of, type_of, typed, type_in, name_in, chain_from, chain}
+use Rattle.scw_reader.specs.Grammar.{type_word, operator_sign}
+use Rattle.scw_reader.specs.Parser.{Parser, and_then, same_word, same_sign, is_word, is_sign, expect_word, expect_sign, eat_word, eat_sign, expect_name, expect_type, eat_operator, operated, operator_in, operator_of, type_of, typed, type_in, name_in}
 
 -- ---- steps in a row
 

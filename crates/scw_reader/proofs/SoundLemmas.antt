@@ -1,5 +1,5 @@
 -- What is read of an expression has the tokens that were taken, and fits the levels.
-use Rattle.std.proofs.Common.{◌≡◌, ℕ, zero, suc, ◌+◌, ◌<◌, ◌≤◌, max, Bool, true, false, cond, List, [], ◌∷◌, ◌++◌, length, refl, sym, ap, subst, ◌∙◌, arith, rules, Option, Some, None, ◌⊎◌, inl, inr, append_assoc, append-nil}
+use Rattle.std.proofs.Common.{◌≡◌, ℕ, zero, suc, ◌≤◌, true, false, List, [], ◌∷◌, ◌++◌, length, refl, sym, ap, subst, ◌∙◌, arith, Option, Some, None, inl, inr, append_assoc, append-nil}
 use Rattle.std.proofs.lemmas.Option.{same_Some}
 use Rattle.scw_reader.specs.declared.token.Word.{Word}
 use Rattle.scw_reader.specs.declared.token.Word.TheVariants as w
@@ -11,16 +11,16 @@ use Rattle.scw_reader.specs.declared.tree.TypeName.{TypeName}
 use Rattle.scw_reader.specs.declared.tree.Operator.{Operator}
 use Rattle.scw_reader.specs.declared.cursor.Start.{Start}
 use Rattle.scw_reader.specs.declared.cursor.Start.TheVariants as start
-use Rattle.scw_reader.specs.Syntax.{Name, Expression, Product, Products, Atom, Atoms, Expressions, Statement, Statements}
+use Rattle.scw_reader.specs.Syntax.{Name, Expression, Product, Atom, Statement}
 use Rattle.scw_reader.specs.Syntax.{sum, operation, if_else, while_do, block, assign, product, int, long, truth, text, name, call, print, paren, val_def, var_def, plain}
 use Rattle.scw_reader.specs.View.{products_of, atoms_of, expressions_of, statements_of}
-use Rattle.scw_reader.specs.Grammar.{Tokens, ◌·◌, nothing, word, sign, named, type_tokens, type_word, operator_sign, expression_tokens, products_tokens, product_tokens, atoms_tokens, atom_tokens, arguments_tokens, more_arguments_tokens, statements_tokens, statement_tokens}
-use Rattle.scw_reader.specs.Limits.{expression_nesting, products_nesting, product_nesting, atoms_nesting, atom_nesting, expressions_nesting, statements_nesting, statement_nesting}
-use Rattle.scw_reader.specs.Parser.{Parser, and_then, ◌>>=◌, ◌>>◌, pure, next, expect_word, expect_sign, eat_word, eat_sign, expect_name, expect_type, eat_operator, chain_from, chain}
+use Rattle.scw_reader.specs.Grammar.{Tokens, ◌·◌, word, sign, named, type_tokens, operator_sign, expression_tokens, product_tokens, atom_tokens, arguments_tokens, more_arguments_tokens, statements_tokens, statement_tokens}
+use Rattle.scw_reader.specs.Limits.{expression_nesting, product_nesting, atom_nesting, statement_nesting}
+use Rattle.scw_reader.specs.Parser.{Parser, ◌>>=◌, pure, expect_word, expect_sign, eat_sign, expect_name, expect_type, eat_operator, chain}
 use Rattle.scw_reader.specs.Reading.{start_of, arguments, inner, in_parens, name_atom, word_atom, sign_atom, atom_by, atom, product_from, product_at, sum_from, operation_by, operation_at, conditional, repetition, assignment, definition, last_or_plain, val, var, part_by, part, parts_by, parts_from, parts, block_at, level_by, level, expression_at, Part, statement_part, last_part}
 use Rattle.scw_reader.proofs.ParserLemmas.{after_step, Eaten, eat_sign_is, expect_sign_is, expect_word_is, expect_name_is, expect_type_is, Operates, eat_operator_is}
-use Rattle.scw_reader.proofs.ChainLemmas.{Sound, turned, chain_tokens, AllWithin, Chained, chain_is}
-use Rattle.scw_reader.proofs.TreeLemmas.{most, most-within, within-most, atoms_tokens-of, atoms_nesting-of, products_tokens-of, products_nesting-of, more_arguments_tokens-of, expressions_nesting-of, statements_nesting-of}
+use Rattle.scw_reader.proofs.ChainLemmas.{Sound, turned, AllWithin, chain_is}
+use Rattle.scw_reader.proofs.TreeLemmas.{most, most-within, atoms_tokens-of, atoms_nesting-of, products_tokens-of, products_nesting-of, more_arguments_tokens-of, expressions_nesting-of, statements_nesting-of}
 
 -- the tokens are those of what was given, before the rest, and it is no larger than n
 abbrev pub Taken : {A : Type 0} → (A → Tokens) → (A → ℕ) → ℕ → List Token → A × List Token → Type 0

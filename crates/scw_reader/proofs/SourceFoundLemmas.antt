@@ -1,24 +1,20 @@
 -- A source within the levels is read from its tokens.
-use Rattle.std.proofs.Common.{◌≡◌, ℕ, zero, suc, ◌+◌, ◌<◌, ◌≤◌, max, Bool, true, false, cond, List, [], ◌∷◌, ◌++◌, length, refl, sym, ap, subst, ◌∙◌, arith, rules, Option, Some, None, ◌⊎◌, inl, inr, append_assoc, append-nil}
-use Rattle.std.proofs.lemmas.Option.{same_Some}
+use Rattle.std.proofs.Common.{◌≡◌, ℕ, zero, suc, ◌<◌, ◌≤◌, true, false, List, [], ◌∷◌, ◌++◌, length, refl, sym, ap, subst, ◌∙◌, arith, Some, append_assoc, append-nil}
 use Rattle.scw_reader.specs.declared.token.Word.TheVariants as w
 use Rattle.scw_reader.specs.declared.token.Sign.TheVariants as s
 use Rattle.scw_reader.specs.declared.token.Token.{Token}
 use Rattle.scw_reader.specs.declared.token.Token.TheVariants as token
-use Rattle.scw_reader.specs.declared.tree.TypeName.{TypeName}
 use Rattle.scw_reader.specs.declared.tree.Parameter.{Parameter}
 use Rattle.scw_reader.specs.declared.limit.TheConstants.{MAX_NESTING}
 use Rattle.scw_reader.specs.Syntax.{Name, Expression, Method, Source}
-use Rattle.scw_reader.specs.Grammar.{Tokens, ◌·◌, nothing, word, sign, named, type_tokens, type_word, expression_tokens, parameter_tokens, more_parameters_tokens, parameters_tokens, method_tokens, main_tokens, before_tokens, after_tokens, source_tokens}
+use Rattle.scw_reader.specs.Grammar.{Tokens, ◌·◌, word, type_word, expression_tokens, parameter_tokens, more_parameters_tokens, parameters_tokens, method_tokens, before_tokens, after_tokens, source_tokens}
 use Rattle.scw_reader.specs.Limits.{expression_nesting, methods_nesting, source_nesting}
-use Rattle.scw_reader.specs.Parser.{Parser, and_then, ◌>>=◌, ◌>>◌, pure, expect_word, expect_sign, eat_word, eat_sign, expect_name, expect_type, chain}
-use Rattle.scw_reader.specs.Reading.{expression_at}
-use Rattle.scw_reader.specs.ReadingSource.{body_at, parameter_at, more_parameters, parameters_at, method_at, main_clause, main_at, before_from, before_at, def_at, object_at, at_end, source_in}
-use Rattle.scw_reader.proofs.ParserLemmas.{after_step, then_step, Eaten, eat_sign_is, eat_word_is, expect_sign_is, expect_word_is, expect_name_is, expect_type_is, takes_word, takes_sign, takes_name, expect_type-word}
-use Rattle.scw_reader.proofs.ChainLemmas.{Sound, Complete, Grows, Lacks, turned, chain_tokens, AllWithin, chain_is, chain_found, sign_sees, ends_item}
-use Rattle.scw_reader.proofs.TreeLemmas.{most, most-within, within-most, expression_grows}
+use Rattle.scw_reader.specs.Parser.{eat_word, eat_sign, chain}
+use Rattle.scw_reader.specs.ReadingSource.{body_at, parameter_at, parameters_at, method_at, main_clause, main_at, before_from, before_at, def_at, object_at, at_end, source_in}
+use Rattle.scw_reader.proofs.ParserLemmas.{then_step, takes_word, takes_sign, takes_name, expect_type-word}
+use Rattle.scw_reader.proofs.ChainLemmas.{Complete, Grows, Lacks, AllWithin, chain_found, sign_sees}
+use Rattle.scw_reader.proofs.TreeLemmas.{within-most, expression_grows}
 use Rattle.scw_reader.proofs.EndLemmas.{Ends, semicolon_ends, close_brace_ends}
-use Rattle.scw_reader.proofs.SoundLemmas.{Taken, finish, expression_sound}
 use Rattle.scw_reader.proofs.CompleteLemmas.{expression_complete}
 
 use Rattle.scw_reader.proofs.SourceLemmas.{no_size, closed_parameters_tokens, rest_tokens, method_nesting, clause_tokens, main_rest_tokens, more_parameters_tokens-chain, after_tokens-chain, methods_nesting-most}

@@ -1,16 +1,16 @@
 -- The lists inside trees: their tokens, how far they nest, and that tokens only grow.
-use Rattle.std.proofs.Common.{◌≡◌, ℕ, zero, suc, ◌+◌, ◌<◌, ◌≤◌, max, Bool, true, false, List, [], ◌∷◌, ◌++◌, length, refl, sym, ap, subst, ◌∙◌, arith, rules}
+use Rattle.std.proofs.Common.{◌≡◌, ℕ, ◌≤◌, max, List, [], ◌∷◌, length, refl, ap, arith}
 use Rattle.scw_reader.specs.declared.token.Word.TheVariants as w
 use Rattle.scw_reader.specs.declared.token.Sign.TheVariants as s
 use Rattle.scw_reader.specs.declared.token.Token.{Token}
 use Rattle.scw_reader.specs.declared.token.Token.TheVariants as token
-use Rattle.scw_reader.specs.Syntax.{Name, Expression, Product, Products, Atom, Atoms, Expressions, Statement, Statements}
+use Rattle.scw_reader.specs.Syntax.{Expression, Product, Products, Atom, Atoms, Expressions, Statement, Statements}
 use Rattle.scw_reader.specs.Syntax.{sum, operation, if_else, while_do, block, assign, product, int, long, truth, text, name, call, print, paren, val_def, var_def, plain}
 use Rattle.scw_reader.specs.Syntax.{no_products, more_products, no_atoms, more_atoms, no_expressions, more_expressions, no_statements, more_statements}
 use Rattle.scw_reader.specs.View.{products_of, atoms_of, expressions_of, statements_of}
-use Rattle.scw_reader.specs.Grammar.{Tokens, ◌·◌, nothing, sign, operator_sign, expression_tokens, products_tokens, product_tokens, atoms_tokens, atom_tokens, arguments_tokens, more_arguments_tokens, statements_tokens, statement_tokens}
+use Rattle.scw_reader.specs.Grammar.{operator_sign, expression_tokens, products_tokens, product_tokens, atoms_tokens, atom_tokens, arguments_tokens, more_arguments_tokens, statements_tokens, statement_tokens}
 use Rattle.scw_reader.specs.Limits.{expression_nesting, products_nesting, product_nesting, atoms_nesting, atom_nesting, expressions_nesting, statements_nesting, statement_nesting}
-use Rattle.scw_reader.proofs.ChainLemmas.{chain_tokens, AllWithin, Grows}
+use Rattle.scw_reader.proofs.ChainLemmas.{chain_tokens, AllWithin}
 
 -- ---- the largest of a list
 

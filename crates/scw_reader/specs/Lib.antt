@@ -7,6 +7,7 @@ pub mod Syntax
 pub mod View
 pub mod Grammar
 pub mod Limits
+pub mod Capped
 pub mod Parser
 pub mod Reading
 pub mod PartView

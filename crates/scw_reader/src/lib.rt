@@ -7,6 +7,7 @@ mod atom;
 mod block;
 mod class;
 mod cursor;
+mod depth;
 mod expression;
 mod failure;
 mod grammar;
