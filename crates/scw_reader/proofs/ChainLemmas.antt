@@ -57,11 +57,11 @@ none_chained {A} s put size n found ts r h =
 one_chained : {A : Type 0} (s : Sign) (put : A → Tokens) (size : A → ℕ) (n : ℕ) (found : List A) (ts at : List Token) (q : A × List Token) (r : List A × List Token)
     → ts ≡ token.Sign s ∷ at → (at ≡ put q.0 q.1) × (size q.0 ≤ n) → Chained s put size n (found ++ q.0 ∷ []) q.1 r → Chained s put size n found ts r
 one_chained s put size n found ts at q r first item c = record {
-    more = q.0 ∷ c.more;
-    all = c.all ∙ append_assoc found (q.0 ∷ []) c.more;
-    tokens = first ∙ ap (λ x. token.Sign s ∷ x) (item.0 ∙ ap (put q.0) c.tokens);
-    within = (item.1, c.within);
-  }
+  more = q.0 ∷ c.more;
+  all = c.all ∙ append_assoc found (q.0 ∷ []) c.more;
+  tokens = first ∙ ap (λ x. token.Sign s ∷ x) (item.0 ∙ ap (put q.0) c.tokens);
+  within = (item.1, c.within);
+}
 
 pub chain_from_is : {A : Type 0} (s : Sign) (item : Parser A) (put : A → Tokens) (size : A → ℕ) (n : ℕ) → Sound item put size n
     → (k : ℕ) (found : List A) (ts : List Token) (r : List A × List Token) → chain_from s item k found ts ≡ Some r → Chained s put size n found ts r
@@ -72,12 +72,12 @@ chain_from_is s item put size n sound (suc k) found ts r h =
     let e = eat_sign_is s ts a.0 a.1 in
     elim (turned a.0.0 (item >>= λ x. chain_from s item k (found ++ x ∷ [])) (pure found) a.0.1 r a.2) [
       | inl w ↦
-        let b = after_step (item a.0.1) _ r w.1 in
-        one_chained s put size n found ts a.0.1 b.0 r (subst (λ t. Eaten (token.Sign s) ts t a.0.1) w.0 e) (sound.is a.0.1 b.0 b.1)
+          let b = after_step (item a.0.1) _ r w.1 in
+          one_chained s put size n found ts a.0.1 b.0 r (subst (λ t. Eaten (token.Sign s) ts t a.0.1) w.0 e) (sound.is a.0.1 b.0 b.1)
           (chain_from_is s item put size n sound k (found ++ b.0.0 ∷ []) b.0.1 r b.2)
       | inr w ↦
-        let same : ts ≡ a.0.1 = subst (λ t. Eaten (token.Sign s) ts t a.0.1) w.0 e in
-        none_chained s put size n found ts r (ap (λ x. Some (found, x)) same ∙ w.1)
+          let same : ts ≡ a.0.1 = subst (λ t. Eaten (token.Sign s) ts t a.0.1) w.0 e in
+          none_chained s put size n found ts r (ap (λ x. Some (found, x)) same ∙ w.1)
     ]
 
 pub chain_is : {A : Type 0} (s : Sign) (item : Parser A) (put : A → Tokens) (size : A → ℕ) (n : ℕ) → Sound item put size n

@@ -26,7 +26,7 @@ module _ (e : Parser Expression) (n : ℕ) (complete : Complete e expression_tok
   unfolding inner
   inner_found x rest fits =
       then_step _ _ x (token.Sign s.CloseParen ∷ rest) (x, rest) (complete.found x (token.Sign s.CloseParen ∷ rest) fits (close_paren_ends rest))
-        (then_step _ _ tt rest (x, rest) (takes_sign s.CloseParen rest refl) refl)
+      (then_step _ _ tt rest (x, rest) (takes_sign s.CloseParen rest refl) refl)
 
   in_parens_found : (x : Expression) (rest : List Token) → expression_nesting x ≤ n → in_parens e (parens_tokens x rest) ≡ Some (x, rest)
   unfolding in_parens
@@ -43,10 +43,10 @@ module _ (e : Parser Expression) (n : ℕ) (complete : Complete e expression_tok
       let close = token.Sign s.CloseParen ∷ rest in
       let more = chain_tokens s.Comma expression_tokens xs close in
       then_step _ _ false (expression_tokens x more) (x ∷ xs, rest) (expression_lacks_close x more)
-        (then_step _ _ x more (x ∷ xs, rest) (complete.found x more fits (ends_item s.Comma expression_tokens Ends comma_ends xs close (close_paren_ends rest)))
-          (then_step _ _ (x ∷ xs) close (x ∷ xs, rest)
-            (chain_found s.Comma e expression_tokens expression_nesting n Ends complete comma_ends refl expression_grows xs (x ∷ []) close within (close_paren_ends rest) (close_paren_lacks_comma rest))
-            (then_step _ _ tt rest (x ∷ xs, rest) (takes_sign s.CloseParen rest refl) refl)))
+      (then_step _ _ x more (x ∷ xs, rest) (complete.found x more fits (ends_item s.Comma expression_tokens Ends comma_ends xs close (close_paren_ends rest)))
+      (then_step _ _ (x ∷ xs) close (x ∷ xs, rest)
+      (chain_found s.Comma e expression_tokens expression_nesting n Ends complete comma_ends refl expression_grows xs (x ∷ []) close within (close_paren_ends rest) (close_paren_lacks_comma rest))
+      (then_step _ _ tt rest (x ∷ xs, rest) (takes_sign s.CloseParen rest refl) refl)))
 
   arguments_found : (xs : List Expression) (rest : List Token) → AllWithin expression_nesting n xs → arguments e (closed_arguments_tokens xs rest) ≡ Some (xs, rest)
   unfolding arguments
@@ -58,7 +58,7 @@ module _ (e : Parser Expression) (n : ℕ) (complete : Complete e expression_tok
   unfolding atom name_atom
   call_found m xs rest within =
       then_step _ _ true (closed_arguments_tokens xs rest) (call m (expressions_of xs), rest) (sign_sees s.OpenParen (closed_arguments_tokens xs rest) refl)
-        (then_step _ _ xs rest (call m (expressions_of xs), rest) (arguments_found xs rest within) refl)
+      (then_step _ _ xs rest (call m (expressions_of xs), rest) (arguments_found xs rest within) refl)
 
   atom_found : (a : Atom) (rest : List Token) → atom_nesting a ≤ n → EndsAtom rest → atom e (atom_tokens a rest) ≡ Some (a, rest)
   unfolding atom name_atom
@@ -119,9 +119,9 @@ module _ (e : Parser Expression) (n : ℕ) (complete : Complete e expression_tok
       let product_ends = products_end_product ps rest ends.product in
       let whole : Expression × List Token = (sum (product a as') ps, rest) in
       then_step _ _ a all whole (atom_found a all (omega arith) (atoms_end_atom as' more product_ends.atom))
-        (then_step _ _ None all whole (atoms_lack_operator as' more (products_lack_operator ps rest ends.operator))
-          (then_step _ _ (product a as') more whole (product_from_found a as' more (omega arith) product_ends)
-            (then_step _ _ (products_list ps) rest whole (products_found ps rest (omega arith) ends) (ap (λ x. let p : Expression × List Token = (sum (product a as') x, rest) in Some p) (products_of-list ps)))))
+      (then_step _ _ None all whole (atoms_lack_operator as' more (products_lack_operator ps rest ends.operator))
+      (then_step _ _ (product a as') more whole (product_from_found a as' more (omega arith) product_ends)
+      (then_step _ _ (products_list ps) rest whole (products_found ps rest (omega arith) ends) (ap (λ x. let p : Expression × List Token = (sum (product a as') x, rest) in Some p) (products_of-list ps)))))
 
   operation_found : (o : Operator) (a b : Atom) (rest : List Token) → expression_nesting (operation o a b) ≤ suc n → Ends rest → operation_at e (expression_tokens (operation o a b) rest) ≡ Some (operation o a b, rest)
   unfolding operation_at
@@ -129,8 +129,8 @@ module _ (e : Parser Expression) (n : ℕ) (complete : Complete e expression_tok
       let second = atom_tokens b rest in
       let whole : Expression × List Token = (operation o a b, rest) in
       then_step _ _ a (token.Sign (operator_sign o) ∷ second) whole (atom_found a (token.Sign (operator_sign o) ∷ second) (omega arith) (operator_ends_atom o second))
-        (then_step _ _ (Some o) second whole (eat_operator-sign o second)
-          (then_step _ _ b rest whole (atom_found b rest (omega arith) ends.product.atom) refl))
+      (then_step _ _ (Some o) second whole (eat_operator-sign o second)
+      (then_step _ _ b rest whole (atom_found b rest (omega arith) ends.product.atom) refl))
 
   -- ---- the other forms
 
@@ -141,10 +141,10 @@ module _ (e : Parser Expression) (n : ℕ) (complete : Complete e expression_tok
       let second = expression_tokens b (token.Word w.Else ∷ last) in
       let whole : Expression × List Token = (if_else a b c, rest) in
       then_step _ _ tt (parens_tokens a second) whole (takes_word w.If (parens_tokens a second) refl)
-        (then_step _ _ a second whole (in_parens_found a second (omega arith))
-          (then_step _ _ b (token.Word w.Else ∷ last) whole (complete.found b (token.Word w.Else ∷ last) (omega arith) (else_ends last))
-            (then_step _ _ tt last whole (takes_word w.Else last refl)
-              (then_step _ _ c rest whole (complete.found c rest (omega arith) ends) refl))))
+      (then_step _ _ a second whole (in_parens_found a second (omega arith))
+      (then_step _ _ b (token.Word w.Else ∷ last) whole (complete.found b (token.Word w.Else ∷ last) (omega arith) (else_ends last))
+      (then_step _ _ tt last whole (takes_word w.Else last refl)
+      (then_step _ _ c rest whole (complete.found c rest (omega arith) ends) refl))))
 
   repetition_found : (a b : Expression) (rest : List Token) → expression_nesting (while_do a b) ≤ suc n → Ends rest → repetition e (expression_tokens (while_do a b) rest) ≡ Some (while_do a b, rest)
   unfolding repetition
@@ -152,8 +152,8 @@ module _ (e : Parser Expression) (n : ℕ) (complete : Complete e expression_tok
       let second = expression_tokens b rest in
       let whole : Expression × List Token = (while_do a b, rest) in
       then_step _ _ tt (parens_tokens a second) whole (takes_word w.While (parens_tokens a second) refl)
-        (then_step _ _ a second whole (in_parens_found a second (omega arith))
-          (then_step _ _ b rest whole (complete.found b rest (omega arith) ends) refl))
+      (then_step _ _ a second whole (in_parens_found a second (omega arith))
+      (then_step _ _ b rest whole (complete.found b rest (omega arith) ends) refl))
 
   assignment_found : (x : Name) (a : Expression) (rest : List Token) → expression_nesting (assign x a) ≤ suc n → Ends rest → assignment e (expression_tokens (assign x a) rest) ≡ Some (assign x a, rest)
   unfolding assignment
@@ -161,8 +161,8 @@ module _ (e : Parser Expression) (n : ℕ) (complete : Complete e expression_tok
       let value = expression_tokens a rest in
       let whole : Expression × List Token = (assign x a, rest) in
       then_step _ _ x (token.Sign s.Assign ∷ value) whole (takes_name x (token.Sign s.Assign ∷ value))
-        (then_step _ _ tt value whole (takes_sign s.Assign value refl)
-          (then_step _ _ a rest whole (complete.found a rest (omega arith) ends) refl))
+      (then_step _ _ tt value whole (takes_sign s.Assign value refl)
+      (then_step _ _ a rest whole (complete.found a rest (omega arith) ends) refl))
 
   -- ---- blocks
 
@@ -175,11 +175,11 @@ module _ (e : Parser Expression) (n : ℕ) (complete : Complete e expression_tok
       let kind = token.Word (type_word t) ∷ assigned in
       let whole : (Name × TypeName × Expression) × List Token = ((x, t, a), rest) in
       then_step _ _ x (token.Sign s.Colon ∷ kind) whole (takes_name x (token.Sign s.Colon ∷ kind))
-        (then_step _ _ tt kind whole (takes_sign s.Colon kind refl)
-          (then_step _ _ t assigned whole (expect_type-word t assigned)
-            (then_step _ _ tt value whole (takes_sign s.Assign value refl)
-              (then_step _ _ a end whole (complete.found a end fits (semicolon_ends rest))
-                (then_step _ _ tt rest whole (takes_sign s.Semicolon rest refl) refl)))))
+      (then_step _ _ tt kind whole (takes_sign s.Colon kind refl)
+      (then_step _ _ t assigned whole (expect_type-word t assigned)
+      (then_step _ _ tt value whole (takes_sign s.Assign value refl)
+      (then_step _ _ a end whole (complete.found a end fits (semicolon_ends rest))
+      (then_step _ _ tt rest whole (takes_sign s.Semicolon rest refl) refl)))))
 
   close_brace_lacks_semicolon : (rest : List Token) → Lacks s.Semicolon (token.Sign s.CloseBrace ∷ rest)
   unfolding eat_sign
@@ -190,7 +190,7 @@ module _ (e : Parser Expression) (n : ℕ) (complete : Complete e expression_tok
   plain_found x rest fits =
       let whole : Part × List Token = (statement_part (plain x), rest) in
       then_step _ _ x (token.Sign s.Semicolon ∷ rest) whole (complete.found x (token.Sign s.Semicolon ∷ rest) fits (semicolon_ends rest))
-        (then_step _ _ true rest whole (sign_sees s.Semicolon rest refl) refl)
+      (then_step _ _ true rest whole (sign_sees s.Semicolon rest refl) refl)
 
   last_found : (x : Expression) (rest : List Token) → expression_nesting x ≤ n → last_or_plain e (part_tokens (last_part x) rest) ≡ Some (last_part x, rest)
   unfolding last_or_plain
@@ -198,8 +198,8 @@ module _ (e : Parser Expression) (n : ℕ) (complete : Complete e expression_tok
       let close = token.Sign s.CloseBrace ∷ rest in
       let whole : Part × List Token = (last_part x, rest) in
       then_step _ _ x close whole (complete.found x close fits (close_brace_ends rest))
-        (then_step _ _ false close whole (close_brace_lacks_semicolon rest)
-          (then_step _ _ tt rest whole (takes_sign s.CloseBrace rest refl) refl))
+      (then_step _ _ false close whole (close_brace_lacks_semicolon rest)
+      (then_step _ _ tt rest whole (takes_sign s.CloseBrace rest refl) refl))
 
   -- no expression begins as a definition
   by_form : (x : Expression) (ts : List Token) → part_by e (form x) ts ≡ last_or_plain e ts
@@ -233,12 +233,12 @@ module _ (e : Parser Expression) (n : ℕ) (complete : Complete e expression_tok
   parts_from_found [] found x rest zero within fits few = absurd (omega arith)
   parts_from_found [] found x rest (suc k) within fits few =
       then_step _ _ (last_part x) rest (block (statements_of (found ++ [])) x, rest) (part_found (last_part x) rest fits)
-        (ap (λ ts. let p : Expression × List Token = (block (statements_of ts) x, rest) in Some p) (sym (append-nil found)))
+      (ap (λ ts. let p : Expression × List Token = (block (statements_of ts) x, rest) in Some p) (sym (append-nil found)))
   parts_from_found (t ∷ ts) found x rest zero within fits few = absurd (omega arith)
   parts_from_found (t ∷ ts) found x rest (suc k) within fits few =
       then_step _ _ (statement_part t) (parts_tokens ts x rest) (block (statements_of (found ++ t ∷ ts)) x, rest) (part_found (statement_part t) (parts_tokens ts x rest) within.0)
-        (parts_from_found ts (found ++ t ∷ []) x rest k within.1 fits (omega arith)
-          ∙ ap (λ us. let p : Expression × List Token = (block (statements_of us) x, rest) in Some p) (append_assoc found (t ∷ []) ts))
+      (parts_from_found ts (found ++ t ∷ []) x rest k within.1 fits (omega arith)
+      ∙ ap (λ us. let p : Expression × List Token = (block (statements_of us) x, rest) in Some p) (append_assoc found (t ∷ []) ts))
 
   -- each statement has a `;`, and the block a `}`
   few_statements : (ts : List Statement) (x : Expression) (rest : List Token) → length ts < length (parts_tokens ts x rest)
@@ -251,7 +251,7 @@ module _ (e : Parser Expression) (n : ℕ) (complete : Complete e expression_tok
   parts_found ts x rest within fits =
       let inside = parts_tokens ts x rest in
       then_step _ _ tt inside (block (statements_of ts) x, rest) (takes_sign s.OpenBrace inside refl)
-        (parts_from_found ts [] x rest (length inside) within fits (few_statements ts x rest))
+      (parts_from_found ts [] x rest (length inside) within fits (few_statements ts x rest))
 
   block_found : (ss : Statements) (x : Expression) (rest : List Token) → expression_nesting (block ss x) ≤ suc n → block_at e (expression_tokens (block ss x) rest) ≡ Some (block ss x, rest)
   block_found ss x rest fits =

@@ -40,4 +40,3 @@ atoms_step xs i d x lt is =
     let same : capped (suc (max d (capped (atom_depth (atom_of x))))) ≡ capped (suc (max d (atom_depth (atom_of x)))) = omega arith in
     let here : drop i xs ≡ x ∷ drop (i + 1) xs = drop-cons xs i x lt ∙ ap (λ y. y ∷ drop (suc i) xs) (sym is) ∙ ap (λ k. x ∷ drop k xs) (sym (add-one i)) in
     ap (λ k. capped (atoms_depth k rest)) same ∙ atoms_depth-capped rest (suc (max d (atom_depth (atom_of x)))) ∙ ap (λ ys. capped (atoms_depth d (atoms_of (map atom_of ys)))) (sym here)
-

@@ -15,3 +15,4 @@ pub mod CompleteLemmas
 pub mod SourceLemmas
 pub mod SourceFoundLemmas
 pub mod DepthLemmas
+pub mod SaysLemmas

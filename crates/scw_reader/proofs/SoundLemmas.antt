@@ -82,17 +82,18 @@ module _ (e : Parser Expression) (n : ℕ) (sound : Sound e expression_tokens ex
       elim (turned a.0.0 _ _ a.0.1 r a.2) [
         | inl w ↦ finish (Taken closed_arguments_tokens (most expression_nesting) n ts) [] a.0.1 r w.1 (subst (λ t. Eaten (token.Sign s.CloseParen) ts t a.0.1) w.0 eats, omega arith)
         | inr w ↦
-          let same : ts ≡ a.0.1 = subst (λ t. Eaten (token.Sign s.CloseParen) ts t a.0.1) w.0 eats in
-          let b = after_step (e a.0.1) _ r w.1 in
-          let t = sound.is a.0.1 b.0 b.1 in
-          let d = after_step (chain s.Comma e (b.0.0 ∷ []) b.0.1) _ r b.2 in
-          let c = chain_is s.Comma e expression_tokens expression_nesting n sound (b.0.0 ∷ []) b.0.1 d.0 d.1 in
-          let f = after_step (expect_sign s.CloseParen d.0.1) _ r d.2 in
-          let all : b.0.0 ∷ c.more ≡ d.0.0 = sym c.all in
-          finish (Taken closed_arguments_tokens (most expression_nesting) n ts) d.0.0 f.0.1 r f.2
-            (subst (λ es. Taken closed_arguments_tokens (most expression_nesting) n ts (es, f.0.1)) all
-              (same ∙ t.0 ∙ ap (expression_tokens b.0.0) (c.tokens ∙ sym (more_arguments_tokens-of c.more d.0.1) ∙ ap (more_arguments_tokens (expressions_of c.more)) (expect_sign_is s.CloseParen d.0.1 f.0 f.1)),
-              most-within expression_nesting n (b.0.0 ∷ c.more) (t.1, c.within)))
+            let same : ts ≡ a.0.1 = subst (λ t. Eaten (token.Sign s.CloseParen) ts t a.0.1) w.0 eats in
+            let b = after_step (e a.0.1) _ r w.1 in
+            let t = sound.is a.0.1 b.0 b.1 in
+            let d = after_step (chain s.Comma e (b.0.0 ∷ []) b.0.1) _ r b.2 in
+            let c = chain_is s.Comma e expression_tokens expression_nesting n sound (b.0.0 ∷ []) b.0.1 d.0 d.1 in
+            let f = after_step (expect_sign s.CloseParen d.0.1) _ r d.2 in
+            let all : b.0.0 ∷ c.more ≡ d.0.0 = sym c.all in
+            finish (Taken closed_arguments_tokens (most expression_nesting) n ts) d.0.0 f.0.1 r f.2
+            (subst (λ es. Taken closed_arguments_tokens (most expression_nesting) n ts (es, f.0.1)) all (
+              same ∙ t.0 ∙ ap (expression_tokens b.0.0) (c.tokens ∙ sym (more_arguments_tokens-of c.more d.0.1) ∙ ap (more_arguments_tokens (expressions_of c.more)) (expect_sign_is s.CloseParen d.0.1 f.0 f.1)),
+              most-within expression_nesting n (b.0.0 ∷ c.more) (t.1, c.within),
+            ))
       ]
 
   -- what is read behind a token, with it
@@ -106,14 +107,14 @@ module _ (e : Parser Expression) (n : ℕ) (sound : Sound e expression_tokens ex
       let eats = eat_sign_is s.OpenParen ts a.0 a.1 in
       elim (turned a.0.0 _ _ a.0.1 r a.2) [
         | inl w ↦
-          let same : ts ≡ token.Sign s.OpenParen ∷ a.0.1 = subst (λ t. Eaten (token.Sign s.OpenParen) ts t a.0.1) w.0 eats in
-          let b = after_step (arguments e a.0.1) _ r w.1 in
-          let t = arguments_is a.0.1 b.0 b.1 in
-          finish (IsAtom (token.Name x) ts) (call x (expressions_of b.0.0)) b.0.1 r b.2
+            let same : ts ≡ token.Sign s.OpenParen ∷ a.0.1 = subst (λ t. Eaten (token.Sign s.OpenParen) ts t a.0.1) w.0 eats in
+            let b = after_step (arguments e a.0.1) _ r w.1 in
+            let t = arguments_is a.0.1 b.0 b.1 in
+            finish (IsAtom (token.Name x) ts) (call x (expressions_of b.0.0)) b.0.1 r b.2
             (ap (λ u. token.Name x ∷ u) same ∙ ap (λ u. token.Name x ∷ (token.Sign s.OpenParen ∷ u)) t.0, subst (λ k. k ≤ n) (sym (expressions_nesting-of b.0.0)) t.1)
         | inr w ↦
-          let same : ts ≡ a.0.1 = subst (λ t. Eaten (token.Sign s.OpenParen) ts t a.0.1) w.0 eats in
-          finish (IsAtom (token.Name x) ts) (name x) a.0.1 r w.1 (ap (λ u. token.Name x ∷ u) same, omega arith)
+            let same : ts ≡ a.0.1 = subst (λ t. Eaten (token.Sign s.OpenParen) ts t a.0.1) w.0 eats in
+            finish (IsAtom (token.Name x) ts) (name x) a.0.1 r w.1 (ap (λ u. token.Name x ∷ u) same, omega arith)
       ]
 
   println_is : (ts : List Token) (r : Atom × List Token) → (in_parens e >>= λ x. pure (print x)) ts ≡ Some r → IsAtom (token.Word w.Println) ts r
@@ -199,8 +200,8 @@ module _ (e : Parser Expression) (n : ℕ) (sound : Sound e expression_tokens ex
       let c = chain_is s.Times (atom e) atom_tokens atom_nesting n atom_sound [] ts b.0 b.1 in
       let within = subst (λ k. k ≤ n) (sym (atoms_nesting-of c.more)) (most-within atom_nesting n c.more c.within) in
       finish (Taken product_tokens product_nesting n (atom_tokens a ts)) (product a (atoms_of b.0.0)) b.0.1 r b.2
-        (subst (λ xs. Taken product_tokens product_nesting n (atom_tokens a ts) (product a (atoms_of xs), b.0.1)) (sym c.all)
-          (ap (atom_tokens a) (c.tokens ∙ sym (atoms_tokens-of c.more b.0.1)), omega arith))
+      (subst (λ xs. Taken product_tokens product_nesting n (atom_tokens a ts) (product a (atoms_of xs), b.0.1)) (sym c.all)
+      (ap (atom_tokens a) (c.tokens ∙ sym (atoms_tokens-of c.more b.0.1)), omega arith))
 
   product_at_is : (ts : List Token) (r : Product × List Token) → product_at e ts ≡ Some r → Taken product_tokens product_nesting n ts r
   unfolding product_at
@@ -226,15 +227,15 @@ module _ (e : Parser Expression) (n : ℕ) (sound : Sound e expression_tokens ex
       let c = chain_is s.Plus (product_at e) product_tokens product_nesting n product_sound [] b.0.1 d.0 d.1 in
       let within = subst (λ k. k ≤ n) (sym (products_nesting-of c.more)) (most-within product_nesting n c.more c.within) in
       finish (IsExpression (atom_tokens a ts)) (sum b.0.0 (products_of d.0.0)) d.0.1 r d.2
-        (subst (λ xs. IsExpression (atom_tokens a ts) (sum b.0.0 (products_of xs), d.0.1)) (sym c.all)
-          (p.0 ∙ ap (product_tokens b.0.0) (c.tokens ∙ sym (products_tokens-of c.more d.0.1)), omega arith))
+      (subst (λ xs. IsExpression (atom_tokens a ts) (sum b.0.0 (products_of xs), d.0.1)) (sym c.all)
+      (p.0 ∙ ap (product_tokens b.0.0) (c.tokens ∙ sym (products_tokens-of c.more d.0.1)), omega arith))
 
   operation_by_is : (a : Atom) (o : Option Operator) (ts at : List Token) (r : Expression × List Token) → atom_nesting a ≤ n → Operates ts o at → operation_by e a o at ≡ Some r → IsExpression (atom_tokens a ts) r
   operation_by_is a (Some o) ts at r fits operates h =
       let b = after_step (atom e at) _ r h in
       let t = atom_is at b.0 b.1 in
       finish (IsExpression (atom_tokens a ts)) (operation o a b.0.0) b.0.1 r b.2
-        (ap (atom_tokens a) (operates ∙ ap (sign (operator_sign o)) t.0), omega arith)
+      (ap (atom_tokens a) (operates ∙ ap (sign (operator_sign o)) t.0), omega arith)
   operation_by_is a None ts at r fits operates h = subst (λ x. IsExpression (atom_tokens a x) r) (sym operates) (sum_from_is a at r fits h)
 
   operation_at_is : (ts : List Token) (r : Expression × List Token) → operation_at e ts ≡ Some r → IsExpression ts r
@@ -259,9 +260,10 @@ module _ (e : Parser Expression) (n : ℕ) (sound : Sound e expression_tokens ex
       let t = in_parens_is a.0.1 b.0 b.1 in
       let u = sound.is b.0.1 c.0 c.1 in
       let v = sound.is d.0.1 f.0 f.1 in
-      finish (IsExpression ts) (if_else b.0.0 c.0.0 f.0.0) f.0.1 r f.2
-        (expect_word_is w.If ts a.0 a.1 ∙ ap (word w.If) (t.0 ∙ ap (parens_tokens b.0.0) (u.0 ∙ ap (expression_tokens c.0.0) (expect_word_is w.Else c.0.1 d.0 d.1 ∙ ap (word w.Else) v.0))),
-        omega arith)
+      finish (IsExpression ts) (if_else b.0.0 c.0.0 f.0.0) f.0.1 r f.2 (
+        expect_word_is w.If ts a.0 a.1 ∙ ap (word w.If) (t.0 ∙ ap (parens_tokens b.0.0) (u.0 ∙ ap (expression_tokens c.0.0) (expect_word_is w.Else c.0.1 d.0 d.1 ∙ ap (word w.Else) v.0))),
+        omega arith,
+      )
 
   repetition_is : (ts : List Token) (r : Expression × List Token) → repetition e ts ≡ Some r → IsExpression ts r
   unfolding repetition
@@ -294,9 +296,11 @@ module _ (e : Parser Expression) (n : ℕ) (sound : Sound e expression_tokens ex
       let f = after_step (e d.0.1) _ r d.2 in
       let g = after_step (expect_sign s.Semicolon f.0.1) _ r f.2 in
       let u = sound.is d.0.1 f.0 f.1 in
-      finish (Taken definition_tokens (λ d. expression_nesting d.2) n ts) (a.0.0, c.0.0, f.0.0) g.0.1 r g.2
-        (expect_name_is ts a.0 a.1 ∙ ap (named a.0.0) (expect_sign_is s.Colon a.0.1 b.0 b.1 ∙ ap (sign s.Colon) (expect_type_is b.0.1 c.0 c.1 ∙ ap (type_tokens c.0.0)
-          (expect_sign_is s.Assign c.0.1 d.0 d.1 ∙ ap (sign s.Assign) (u.0 ∙ ap (expression_tokens f.0.0) (expect_sign_is s.Semicolon f.0.1 g.0 g.1))))), u.1)
+      finish (Taken definition_tokens (λ d. expression_nesting d.2) n ts) (a.0.0, c.0.0, f.0.0) g.0.1 r g.2 (
+        expect_name_is ts a.0 a.1 ∙ ap (named a.0.0) (expect_sign_is s.Colon a.0.1 b.0 b.1 ∙ ap (sign s.Colon) (expect_type_is b.0.1 c.0 c.1 ∙ ap (type_tokens c.0.0)
+            (expect_sign_is s.Assign c.0.1 d.0 d.1 ∙ ap (sign s.Assign) (u.0 ∙ ap (expression_tokens f.0.0) (expect_sign_is s.Semicolon f.0.1 g.0 g.1))))),
+        u.1,
+      )
 
   abbrev IsPart : List Token → Part × List Token → Type 0
   IsPart ts r = Taken part_tokens part_nesting n ts r
@@ -311,9 +315,9 @@ module _ (e : Parser Expression) (n : ℕ) (sound : Sound e expression_tokens ex
       elim (turned b.0.0 _ _ b.0.1 r b.2) [
         | inl w ↦ finish (IsPart ts) (statement_part (plain a.0.0)) b.0.1 r w.1 (u.0 ∙ ap (expression_tokens a.0.0) (subst (λ t. Eaten (token.Sign s.Semicolon) a.0.1 t b.0.1) w.0 eats), u.1)
         | inr w ↦
-          let same : a.0.1 ≡ b.0.1 = subst (λ t. Eaten (token.Sign s.Semicolon) a.0.1 t b.0.1) w.0 eats in
-          let c = after_step (expect_sign s.CloseBrace b.0.1) _ r w.1 in
-          finish (IsPart ts) (last_part a.0.0) c.0.1 r c.2 (u.0 ∙ ap (expression_tokens a.0.0) (same ∙ expect_sign_is s.CloseBrace b.0.1 c.0 c.1), u.1)
+            let same : a.0.1 ≡ b.0.1 = subst (λ t. Eaten (token.Sign s.Semicolon) a.0.1 t b.0.1) w.0 eats in
+            let c = after_step (expect_sign s.CloseBrace b.0.1) _ r w.1 in
+            finish (IsPart ts) (last_part a.0.0) c.0.1 r c.2 (u.0 ∙ ap (expression_tokens a.0.0) (same ∙ expect_sign_is s.CloseBrace b.0.1 c.0 c.1), u.1)
       ]
 
   val_is : (ts : List Token) (r : Part × List Token) → val e ts ≡ Some r → IsPart ts r
@@ -357,24 +361,24 @@ module _ (e : Parser Expression) (n : ℕ) (sound : Sound e expression_tokens ex
   one_part : (found : List Statement) (ts : List Token) (t : Statement) (at : List Token) (r : Expression × List Token) → ts ≡ statement_tokens t (token.Sign s.Semicolon ∷ at) → statement_nesting t ≤ n
       → Parts (found ++ t ∷ []) at r → Parts found ts r
   one_part found ts t at r same fits p = record {
-      more = t ∷ p.more;
-      last = p.last;
-      all = p.all ∙ ap (λ x. block (statements_of x) p.last) (append_assoc found (t ∷ []) p.more);
-      tokens = same ∙ ap (λ x. statement_tokens t (token.Sign s.Semicolon ∷ x)) p.tokens;
-      within = (fits, p.within);
-      fits = p.fits;
-    }
+    more = t ∷ p.more;
+    last = p.last;
+    all = p.all ∙ ap (λ x. block (statements_of x) p.last) (append_assoc found (t ∷ []) p.more);
+    tokens = same ∙ ap (λ x. statement_tokens t (token.Sign s.Semicolon ∷ x)) p.tokens;
+    within = (fits, p.within);
+    fits = p.fits;
+  }
 
   last_one : (found : List Statement) (ts : List Token) (x : Expression) (at : List Token) (r : Expression × List Token) → ts ≡ expression_tokens x (token.Sign s.CloseBrace ∷ at) → expression_nesting x ≤ n
       → ◌≡◌ {A = Option (Expression × List Token)} (Some (block (statements_of found) x, at)) (Some r) → Parts found ts r
   last_one found ts x at r same fits h = finish (Parts found ts) (block (statements_of found) x) at r h (record {
-      more = [];
-      last = x;
-      all = ap (λ y. block (statements_of y) x) (sym (append-nil found));
-      tokens = same;
-      within = tt;
-      fits = fits;
-    })
+    more = [];
+    last = x;
+    all = ap (λ y. block (statements_of y) x) (sym (append-nil found));
+    tokens = same;
+    within = tt;
+    fits = fits;
+  })
 
   parts_from_is : (k : ℕ) (found : List Statement) (ts : List Token) (r : Expression × List Token) → parts_from e k found ts ≡ Some r → Parts found ts r
   unfolding parts_from

@@ -16,7 +16,6 @@ use Rattle.scw_reader.proofs.ChainLemmas.{Complete, Grows, Lacks, AllWithin, cha
 use Rattle.scw_reader.proofs.TreeLemmas.{within-most, expression_grows}
 use Rattle.scw_reader.proofs.EndLemmas.{Ends, semicolon_ends, close_brace_ends}
 use Rattle.scw_reader.proofs.CompleteLemmas.{expression_complete}
-
 use Rattle.scw_reader.proofs.SourceLemmas.{no_size, closed_parameters_tokens, rest_tokens, method_nesting, clause_tokens, main_rest_tokens, more_parameters_tokens-chain, after_tokens-chain, methods_nesting-most}
 
 body_found : (x : Expression) (rest : List Token) → expression_nesting x ≤ MAX_NESTING → Ends rest → body_at (expression_tokens x rest) ≡ Some (x, rest)
@@ -29,7 +28,7 @@ unfolding parameter_at
 parameter_found p rest =
     let kind = token.Word (type_word p.kind) ∷ rest in
     then_step _ _ p.name (token.Sign s.Colon ∷ kind) (p, rest) (takes_name p.name (token.Sign s.Colon ∷ kind))
-      (then_step _ _ tt kind (p, rest) (takes_sign s.Colon kind refl) (then_step _ _ p.kind rest (p, rest) (expect_type-word p.kind rest) refl))
+    (then_step _ _ tt kind (p, rest) (takes_sign s.Colon kind refl) (then_step _ _ p.kind rest (p, rest) (expect_type-word p.kind rest) refl))
 
 -- a parameter ends anywhere
 abbrev Anywhere : List Token → Type 0
@@ -61,11 +60,11 @@ parameters_found (p ∷ ps) rest =
     let more = more_parameters_tokens ps close in
     let whole : List Parameter × List Token = (p ∷ ps, rest) in
     then_step _ _ false (parameter_tokens p more) whole (parameter_lacks_close p more)
-      (then_step _ _ p more whole (parameter_found p more)
-        (then_step _ _ (p ∷ ps) close whole
-          (ap (chain s.Comma parameter_at (p ∷ [])) (more_parameters_tokens-chain ps close)
-            ∙ chain_found s.Comma parameter_at parameter_tokens no_size 0 Anywhere parameter_complete (λ ts. tt) refl parameter_grows ps (p ∷ []) close (all_no_size ps) tt (close_paren_lacks_comma rest))
-          (then_step _ _ tt rest whole (takes_sign s.CloseParen rest refl) refl)))
+    (then_step _ _ p more whole (parameter_found p more)
+    (then_step _ _ (p ∷ ps) close whole
+    (ap (chain s.Comma parameter_at (p ∷ [])) (more_parameters_tokens-chain ps close)
+    ∙ chain_found s.Comma parameter_at parameter_tokens no_size 0 Anywhere parameter_complete (λ ts. tt) refl parameter_grows ps (p ∷ []) close (all_no_size ps) tt (close_paren_lacks_comma rest))
+    (then_step _ _ tt rest whole (takes_sign s.CloseParen rest refl) refl)))
 
 -- ---- methods
 
@@ -79,12 +78,12 @@ method_found m rest fits ends =
     let clause = closed_parameters_tokens m.parameters colon in
     let whole : Method × List Token = (m, rest) in
     then_step _ _ m.name (token.Sign s.OpenParen ∷ clause) whole (takes_name m.name (token.Sign s.OpenParen ∷ clause))
-      (then_step _ _ tt clause whole (takes_sign s.OpenParen clause refl)
-        (then_step _ _ m.parameters colon whole (parameters_found m.parameters colon)
-          (then_step _ _ tt kind whole (takes_sign s.Colon kind refl)
-            (then_step _ _ m.result assigned whole (expect_type-word m.result assigned)
-              (then_step _ _ tt body whole (takes_sign s.Assign body refl)
-                (then_step _ _ m.body rest whole (body_found m.body rest fits ends) refl))))))
+    (then_step _ _ tt clause whole (takes_sign s.OpenParen clause refl)
+    (then_step _ _ m.parameters colon whole (parameters_found m.parameters colon)
+    (then_step _ _ tt kind whole (takes_sign s.Colon kind refl)
+    (then_step _ _ m.result assigned whole (expect_type-word m.result assigned)
+    (then_step _ _ tt body whole (takes_sign s.Assign body refl)
+    (then_step _ _ m.body rest whole (body_found m.body rest fits ends) refl))))))
 
 def_found : (m : Method) (rest : List Token) → method_nesting m ≤ MAX_NESTING → Ends rest → def_at (method_tokens m rest) ≡ Some (m, rest)
 unfolding def_at
@@ -121,8 +120,8 @@ clause_found rest =
     let colon = token.Sign s.Colon ∷ array in
     let args = token.Word w.Args ∷ colon in
     then_step _ _ tt args whole (takes_sign s.OpenParen args refl) (then_step _ _ tt colon whole (takes_word w.Args colon refl) (then_step _ _ tt array whole (takes_sign s.Colon array refl)
-      (then_step _ _ tt opened whole (takes_word w.Array opened refl) (then_step _ _ tt string whole (takes_sign s.OpenBracket string refl) (then_step _ _ tt bracket whole (takes_word w.String bracket refl)
-        (then_step _ _ tt closed whole (takes_sign s.CloseBracket closed refl) (takes_sign s.CloseParen rest refl)))))))
+    (then_step _ _ tt opened whole (takes_word w.Array opened refl) (then_step _ _ tt string whole (takes_sign s.OpenBracket string refl) (then_step _ _ tt bracket whole (takes_word w.String bracket refl)
+    (then_step _ _ tt closed whole (takes_sign s.CloseBracket closed refl) (takes_sign s.CloseParen rest refl)))))))
 
 main_found : (x : Expression) (rest : List Token) → expression_nesting x ≤ MAX_NESTING → Ends rest → main_at (main_rest_tokens x rest) ≡ Some (x, rest)
 unfolding main_at
@@ -133,7 +132,7 @@ main_found x rest fits ends =
     let colon = token.Sign s.Colon ∷ unit in
     let whole : Expression × List Token = (x, rest) in
     then_step _ _ tt colon whole (clause_found colon) (then_step _ _ tt unit whole (takes_sign s.Colon unit refl) (then_step _ _ tt assigned whole (takes_word w.Unit assigned refl)
-      (then_step _ _ tt body whole (takes_sign s.Assign body refl) (body_found x rest fits ends))))
+    (then_step _ _ tt body whole (takes_sign s.Assign body refl) (body_found x rest fits ends))))
 
 -- ---- the methods before `main`
 
@@ -154,7 +153,7 @@ unfolding before_from
 before_from_found [] found rest zero within few = absurd (omega arith)
 before_from_found [] found rest (suc k) within few =
     then_step _ _ tt (token.Word w.MainMethod ∷ rest) (found ++ [], rest) (takes_word w.Def (token.Word w.MainMethod ∷ rest) refl)
-      (then_step _ _ true rest (found ++ [], rest) (takes_main rest) (ap (λ ms. let p : List Method × List Token = (ms, rest) in Some p) (sym (append-nil found))))
+    (then_step _ _ true rest (found ++ [], rest) (takes_main rest) (ap (λ ms. let p : List Method × List Token = (ms, rest) in Some p) (sym (append-nil found))))
 before_from_found (m ∷ ms) found rest zero within few = absurd (omega arith)
 before_from_found (m ∷ ms) found rest (suc k) within few =
     let later = before_tokens ms (def_main rest) in
@@ -162,10 +161,10 @@ before_from_found (m ∷ ms) found rest (suc k) within few =
     let here = rest_tokens m end in
     let whole : List Method × List Token = (found ++ m ∷ ms, rest) in
     then_step _ _ tt here whole (takes_word w.Def here refl)
-      (then_step _ _ false here whole (name_is_not_main m.name _)
-        (then_step _ _ m end whole (method_found m end within.0 (semicolon_ends later))
-          (then_step _ _ tt later whole (takes_sign s.Semicolon later refl)
-            (before_from_found ms (found ++ m ∷ []) rest k within.1 (omega arith) ∙ ap (λ x. let p : List Method × List Token = (x, rest) in Some p) (append_assoc found (m ∷ []) ms)))))
+    (then_step _ _ false here whole (name_is_not_main m.name _)
+    (then_step _ _ m end whole (method_found m end within.0 (semicolon_ends later))
+    (then_step _ _ tt later whole (takes_sign s.Semicolon later refl)
+    (before_from_found ms (found ++ m ∷ []) rest k within.1 (omega arith) ∙ ap (λ x. let p : List Method × List Token = (x, rest) in Some p) (append_assoc found (m ∷ []) ms)))))
 
 few_before : (ms : List Method) (rest : List Token) → length ms < length (before_tokens ms (def_main rest))
 few_before [] rest = omega arith
@@ -205,12 +204,12 @@ object_found e rest before_fits main_fits after_fits =
     let object = token.Word w.MainObject ∷ opened in
     let whole : Source × List Token = (e, rest) in
     then_step _ _ tt object whole (takes_word w.Object object refl)
-      (then_step _ _ tt opened whole (takes_word w.MainObject opened refl)
-        (then_step _ _ tt before whole (takes_sign s.OpenBrace before refl)
-          (then_step _ _ e.before main whole (before_found e.before main (methods_within e.before before_fits))
-            (then_step _ _ e.main after whole (main_found e.main after main_fits (after_ends e.after close (close_brace_ends rest)))
-              (then_step _ _ e.after close whole (after_found e.after rest (methods_within e.after after_fits))
-                (then_step _ _ tt rest whole (takes_sign s.CloseBrace rest refl) refl))))))
+    (then_step _ _ tt opened whole (takes_word w.MainObject opened refl)
+    (then_step _ _ tt before whole (takes_sign s.OpenBrace before refl)
+    (then_step _ _ e.before main whole (before_found e.before main (methods_within e.before before_fits))
+    (then_step _ _ e.main after whole (main_found e.main after main_fits (after_ends e.after close (close_brace_ends rest)))
+    (then_step _ _ e.after close whole (after_found e.after rest (methods_within e.after after_fits))
+    (then_step _ _ tt rest whole (takes_sign s.CloseBrace rest refl) refl))))))
 
 -- a source within the levels is read from its tokens
 pub source_found : (e : Source) → source_nesting e ≤ MAX_NESTING → source_in (source_tokens e []) ≡ Some e

@@ -32,7 +32,7 @@ parameter_is ts r h =
     let b = after_step (expect_sign s.Colon a.0.1) _ r a.2 in
     let c = after_step (expect_type b.0.1) _ r b.2 in
     finish (Taken parameter_tokens no_size 0 ts) (record { name = a.0.0; kind = c.0.0 }) c.0.1 r c.2
-      (expect_name_is ts a.0 a.1 ∙ ap (named a.0.0) (expect_sign_is s.Colon a.0.1 b.0 b.1 ∙ ap (sign s.Colon) (expect_type_is b.0.1 c.0 c.1)), omega arith)
+    (expect_name_is ts a.0 a.1 ∙ ap (named a.0.0) (expect_sign_is s.Colon a.0.1 b.0 b.1 ∙ ap (sign s.Colon) (expect_type_is b.0.1 c.0 c.1)), omega arith)
 
 parameter_sound : Sound parameter_at parameter_tokens no_size 0
 parameter_sound = record { is = parameter_is }
@@ -52,15 +52,15 @@ parameters_is ts r h =
     elim (turned a.0.0 _ _ a.0.1 r a.2) [
       | inl v ↦ finish (λ q. ts ≡ closed_parameters_tokens q.0 q.1) [] a.0.1 r v.1 (subst (λ t. Eaten (token.Sign s.CloseParen) ts t a.0.1) v.0 eats)
       | inr v ↦
-        let same : ts ≡ a.0.1 = subst (λ t. Eaten (token.Sign s.CloseParen) ts t a.0.1) v.0 eats in
-        let b = after_step (parameter_at a.0.1) _ r v.1 in
-        let t = parameter_is a.0.1 b.0 b.1 in
-        let d = after_step (chain s.Comma parameter_at (b.0.0 ∷ []) b.0.1) _ r b.2 in
-        let c = chain_is s.Comma parameter_at parameter_tokens no_size 0 parameter_sound (b.0.0 ∷ []) b.0.1 d.0 d.1 in
-        let f = after_step (expect_sign s.CloseParen d.0.1) _ r d.2 in
-        finish (λ q. ts ≡ closed_parameters_tokens q.0 q.1) d.0.0 f.0.1 r f.2
+          let same : ts ≡ a.0.1 = subst (λ t. Eaten (token.Sign s.CloseParen) ts t a.0.1) v.0 eats in
+          let b = after_step (parameter_at a.0.1) _ r v.1 in
+          let t = parameter_is a.0.1 b.0 b.1 in
+          let d = after_step (chain s.Comma parameter_at (b.0.0 ∷ []) b.0.1) _ r b.2 in
+          let c = chain_is s.Comma parameter_at parameter_tokens no_size 0 parameter_sound (b.0.0 ∷ []) b.0.1 d.0 d.1 in
+          let f = after_step (expect_sign s.CloseParen d.0.1) _ r d.2 in
+          finish (λ q. ts ≡ closed_parameters_tokens q.0 q.1) d.0.0 f.0.1 r f.2
           (subst (λ ps. ts ≡ closed_parameters_tokens ps f.0.1) (sym c.all)
-            (same ∙ t.0 ∙ ap (parameter_tokens b.0.0) (c.tokens ∙ sym (more_parameters_tokens-chain c.more d.0.1) ∙ ap (more_parameters_tokens c.more) (expect_sign_is s.CloseParen d.0.1 f.0 f.1))))
+          (same ∙ t.0 ∙ ap (parameter_tokens b.0.0) (c.tokens ∙ sym (more_parameters_tokens-chain c.more d.0.1) ∙ ap (more_parameters_tokens c.more) (expect_sign_is s.CloseParen d.0.1 f.0 f.1))))
     ]
 
 -- ---- methods
@@ -84,9 +84,11 @@ method_is ts r h =
     let g = after_step (expect_sign s.Assign f.0.1) _ r f.2 in
     let k = after_step (body_at g.0.1) _ r g.2 in
     let body = body_sound.is g.0.1 k.0 k.1 in
-    finish (Taken rest_tokens method_nesting MAX_NESTING ts) (record { name = a.0.0; parameters = c.0.0; result = f.0.0; body = k.0.0 }) k.0.1 r k.2
-      (expect_name_is ts a.0 a.1 ∙ ap (named a.0.0) (expect_sign_is s.OpenParen a.0.1 b.0 b.1 ∙ ap (sign s.OpenParen) (parameters_is b.0.1 c.0 c.1 ∙ ap (closed_parameters_tokens c.0.0)
-        (expect_sign_is s.Colon c.0.1 d.0 d.1 ∙ ap (sign s.Colon) (expect_type_is d.0.1 f.0 f.1 ∙ ap (type_tokens f.0.0) (expect_sign_is s.Assign f.0.1 g.0 g.1 ∙ ap (sign s.Assign) body.0))))), body.1)
+    finish (Taken rest_tokens method_nesting MAX_NESTING ts) (record { name = a.0.0; parameters = c.0.0; result = f.0.0; body = k.0.0 }) k.0.1 r k.2 (
+      expect_name_is ts a.0 a.1 ∙ ap (named a.0.0) (expect_sign_is s.OpenParen a.0.1 b.0 b.1 ∙ ap (sign s.OpenParen) (parameters_is b.0.1 c.0 c.1 ∙ ap (closed_parameters_tokens c.0.0)
+          (expect_sign_is s.Colon c.0.1 d.0 d.1 ∙ ap (sign s.Colon) (expect_type_is d.0.1 f.0 f.1 ∙ ap (type_tokens f.0.0) (expect_sign_is s.Assign f.0.1 g.0 g.1 ∙ ap (sign s.Assign) body.0))))),
+      body.1,
+    )
 
 def_is : (ts : List Token) (r : Method × List Token) → def_at ts ≡ Some r → Taken method_tokens method_nesting MAX_NESTING ts r
 unfolding def_at
@@ -124,8 +126,8 @@ clause_is ts r h =
     let g = after_step (expect_word w.String f.0.1) _ r f.2 in
     let k = after_step (expect_sign s.CloseBracket g.0.1) _ r g.2 in
     expect_sign_is s.OpenParen ts a.0 a.1 ∙ ap (sign s.OpenParen) (expect_word_is w.Args a.0.1 b.0 b.1 ∙ ap (word w.Args) (expect_sign_is s.Colon b.0.1 c.0 c.1 ∙ ap (sign s.Colon)
-      (expect_word_is w.Array c.0.1 d.0 d.1 ∙ ap (word w.Array) (expect_sign_is s.OpenBracket d.0.1 f.0 f.1 ∙ ap (sign s.OpenBracket) (expect_word_is w.String f.0.1 g.0 g.1 ∙ ap (word w.String)
-        (expect_sign_is s.CloseBracket g.0.1 k.0 k.1 ∙ ap (sign s.CloseBracket) (expect_sign_is s.CloseParen k.0.1 r k.2)))))))
+    (expect_word_is w.Array c.0.1 d.0 d.1 ∙ ap (word w.Array) (expect_sign_is s.OpenBracket d.0.1 f.0 f.1 ∙ ap (sign s.OpenBracket) (expect_word_is w.String f.0.1 g.0 g.1 ∙ ap (word w.String)
+    (expect_sign_is s.CloseBracket g.0.1 k.0 k.1 ∙ ap (sign s.CloseBracket) (expect_sign_is s.CloseParen k.0.1 r k.2)))))))
 
 -- `main` without `def main`
 abbrev pub main_rest_tokens : Expression → Tokens
@@ -156,11 +158,11 @@ no_method found ts at r same h = finish (Before found ts) found at r h (record {
 one_method : (found : List Method) (ts : List Token) (m : Method) (at : List Token) (r : List Method × List Token) → ts ≡ method_tokens m (token.Sign s.Semicolon ∷ at) → method_nesting m ≤ MAX_NESTING
     → Before (found ++ m ∷ []) at r → Before found ts r
 one_method found ts m at r same fits b = record {
-    more = m ∷ b.more;
-    all = b.all ∙ append_assoc found (m ∷ []) b.more;
-    tokens = same ∙ ap (λ x. method_tokens m (token.Sign s.Semicolon ∷ x)) b.tokens;
-    within = (fits, b.within);
-  }
+  more = m ∷ b.more;
+  all = b.all ∙ append_assoc found (m ∷ []) b.more;
+  tokens = same ∙ ap (λ x. method_tokens m (token.Sign s.Semicolon ∷ x)) b.tokens;
+  within = (fits, b.within);
+}
 
 before_from_is : (k : ℕ) (found : List Method) (ts : List Token) (r : List Method × List Token) → before_from k found ts ≡ Some r → Before found ts r
 unfolding before_from
@@ -173,11 +175,11 @@ before_from_is (suc k) found ts r h =
     elim (turned b.0.0 _ _ b.0.1 r b.2) [
       | inl v ↦ no_method found ts b.0.1 r (def ∙ ap (word w.Def) (subst (λ t. Eaten (token.Word w.MainMethod) a.0.1 t b.0.1) v.0 eats)) v.1
       | inr v ↦
-        let same : a.0.1 ≡ b.0.1 = subst (λ t. Eaten (token.Word w.MainMethod) a.0.1 t b.0.1) v.0 eats in
-        let c = after_step (method_at b.0.1) _ r v.1 in
-        let m = method_is b.0.1 c.0 c.1 in
-        let d = after_step (expect_sign s.Semicolon c.0.1) _ r c.2 in
-        one_method found ts c.0.0 d.0.1 r (def ∙ ap (word w.Def) (same ∙ m.0 ∙ ap (rest_tokens c.0.0) (expect_sign_is s.Semicolon c.0.1 d.0 d.1))) m.1
+          let same : a.0.1 ≡ b.0.1 = subst (λ t. Eaten (token.Word w.MainMethod) a.0.1 t b.0.1) v.0 eats in
+          let c = after_step (method_at b.0.1) _ r v.1 in
+          let m = method_is b.0.1 c.0 c.1 in
+          let d = after_step (expect_sign s.Semicolon c.0.1) _ r c.2 in
+          one_method found ts c.0.0 d.0.1 r (def ∙ ap (word w.Def) (same ∙ m.0 ∙ ap (rest_tokens c.0.0) (expect_sign_is s.Semicolon c.0.1 d.0 d.1))) m.1
           (before_from_is k (found ++ c.0.0 ∷ []) d.0.1 r d.2)
     ]
 
@@ -204,10 +206,11 @@ object_is ts r h =
     let after_fits = subst (λ x. methods_nesting x ≤ MAX_NESTING) (sym after.all) (subst (λ x. x ≤ MAX_NESTING) (sym (methods_nesting-most after.more)) (most-within method_nesting MAX_NESTING after.more after.within)) in
     let def_main = λ (x : List Token). token.Word w.Def ∷ token.Word w.MainMethod ∷ x in
     let behind = after.tokens ∙ sym (after_tokens-chain after.more g.0.1) ∙ ap (after_tokens after.more) (expect_sign_is s.CloseBrace g.0.1 k.0 k.1) ∙ ap (λ ms. after_tokens ms (token.Sign s.CloseBrace ∷ k.0.1)) (sym after.all) in
-    finish (Taken source_tokens source_nesting MAX_NESTING ts) (record { before = d.0.0; main = f.0.0; after = g.0.0 }) k.0.1 r k.2
-      (expect_word_is w.Object ts a.0 a.1 ∙ ap (word w.Object) (expect_word_is w.MainObject a.0.1 b.0 b.1 ∙ ap (word w.MainObject) (expect_sign_is s.OpenBrace b.0.1 c.0 c.1 ∙ ap (sign s.OpenBrace)
-        (before.tokens ∙ ap (λ ms. before_tokens ms (def_main d.0.1)) (sym before.all) ∙ ap (λ x. before_tokens d.0.0 (def_main x)) (main.0 ∙ ap (main_rest_tokens f.0.0) behind)))),
-      max_within before_fits main.1 after_fits)
+    finish (Taken source_tokens source_nesting MAX_NESTING ts) (record { before = d.0.0; main = f.0.0; after = g.0.0 }) k.0.1 r k.2 (
+      expect_word_is w.Object ts a.0 a.1 ∙ ap (word w.Object) (expect_word_is w.MainObject a.0.1 b.0 b.1 ∙ ap (word w.MainObject) (expect_sign_is s.OpenBrace b.0.1 c.0 c.1 ∙ ap (sign s.OpenBrace)
+          (before.tokens ∙ ap (λ ms. before_tokens ms (def_main d.0.1)) (sym before.all) ∙ ap (λ x. before_tokens d.0.0 (def_main x)) (main.0 ∙ ap (main_rest_tokens f.0.0) behind)))),
+      max_within before_fits main.1 after_fits,
+    )
   where
     max_within : {a b c n : ℕ} → a ≤ n → b ≤ n → c ≤ n → max a (max b c) ≤ n
     max_within f g h = omega arith

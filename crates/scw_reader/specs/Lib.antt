@@ -7,6 +7,7 @@ pub mod Syntax
 pub mod View
 pub mod Grammar
 pub mod Limits
+pub mod Source
 pub mod Capped
 pub mod Parser
 pub mod Reading

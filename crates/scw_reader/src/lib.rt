@@ -17,11 +17,13 @@ mod limit;
 mod method;
 mod number;
 mod operation;
+mod source;
 mod token;
 mod tree;
 
 pub use layout::{Tokens, read_tokens};
 pub use limit::{MAX_BYTES, MAX_DEPTH, MAX_NESTING, MAX_PARAMETERS};
+pub use source::read_small;
 pub use token::{Sign, Token, Word};
 pub use tree::{
     Atom, Expression, Method, Operator, Parameter, Product, Source, Statement, TypeName,

@@ -14,11 +14,11 @@ expression_depth-returns-in-Sum t c =
 
 pub products_depth-loop-product-preserved : goal.products_depth-loop-product-preserved
 products_depth-loop-product-preserved t c = record {
-    small = omega (arith, c.above-depth.ensures);
-    whole =
+  small = omega (arith, c.above-depth.ensures);
+  whole =
       ap (λ k. capped (products_depth k (products_of (map product_of (drop (c.loop-product.product-index + 1) c.args.more.now))))) (c.above-depth.ensures ∙ ap (λ m. capped (suc m)) (c.max.ensures ∙ ap (max c.loop-product.depth) c.product_depth.ensures))
       ∙ products_step c.args.more.now c.loop-product.product-index c.loop-product.depth c.product-item.result c.loop-product-test.true c.product-item.is ∙ c.loop-product.invariant.whole;
-  }
+}
 
 pub product_depth-returns : goal.product_depth-returns
 product_depth-returns t c =
@@ -27,8 +27,8 @@ product_depth-returns t c =
 
 pub atoms_depth-loop-atom-preserved : goal.atoms_depth-loop-atom-preserved
 atoms_depth-loop-atom-preserved t c = record {
-    small = omega (arith, c.above-depth.ensures);
-    whole =
+  small = omega (arith, c.above-depth.ensures);
+  whole =
       ap (λ k. capped (atoms_depth k (atoms_of (map atom_of (drop (c.loop-atom.atom-index + 1) c.args.more.now))))) (c.above-depth.ensures ∙ ap (λ m. capped (suc m)) (c.max.ensures ∙ ap (max c.loop-atom.depth) c.atom_depth.ensures))
       ∙ atoms_step c.args.more.now c.loop-atom.atom-index c.loop-atom.depth c.atom-item.result c.loop-atom-test.true c.atom-item.is ∙ c.loop-atom.invariant.whole;
-  }
+}
