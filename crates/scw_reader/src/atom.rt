@@ -17,27 +17,27 @@ use std::alloc::Global;
 impl<F: Fn(Global, &mut Cursor<'_>, usize) -> Result<Expression, Failure>> Grammar<F> {
     /// `E )`
     #[tactic(auto, unfolding(crate::specs::Reading::inner))]
-    fn inner(&self, tokens: &mut Cursor<'_>) -> Result<Expression, Failure>
+    fn read_inner(&self, tokens: &mut Cursor<'_>) -> Result<Expression, Failure>
         requires { Nests self.now.levels (F.pre self.now.read) (F.post self.now.read) }
         ensures { Reads expression_of (spec.inner (spec.expression_at self.now.levels) tokens.old.rest.now) result tokens.new.rest.now }
     {
-        let e = self.expression(tokens)?;
+        let e = self.read_expression(tokens)?;
         tokens.expect_sign(Sign::CloseParen)?;
         Ok(e)
     }
 
     /// `( E )`
     #[tactic(auto, unfolding(crate::specs::Reading::in_parens))]
-    pub fn in_parens(&self, tokens: &mut Cursor<'_>) -> Result<Expression, Failure>
+    pub fn read_in_parens(&self, tokens: &mut Cursor<'_>) -> Result<Expression, Failure>
         requires { Nests self.now.levels (F.pre self.now.read) (F.post self.now.read) }
         ensures { Reads expression_of (spec.in_parens (spec.expression_at self.now.levels) tokens.old.rest.now) result tokens.new.rest.now }
     {
         tokens.expect_sign(Sign::OpenParen)?;
-        self.inner(tokens)
+        self.read_inner(tokens)
     }
 
     /// `{, E}`, behind the expressions that were read.
-    fn more_arguments(
+    fn read_more_arguments(
         &self,
         tokens: &mut Cursor<'_>,
         first: Expression,
@@ -51,35 +51,35 @@ impl<F: Fn(Global, &mut Cursor<'_>, usize) -> Result<Expression, Failure>> Gramm
             if !tokens.eat_sign(Sign::Comma) {
                 return Ok(found);
             }
-            found.push(self.expression(tokens)?)?;
+            found.push(self.read_expression(tokens)?)?;
         }
         Ok(found)
     }
 
     /// `[E {, E}] )`
     #[tactic(auto, unfolding(crate::specs::Reading::arguments))]
-    fn arguments(&self, tokens: &mut Cursor<'_>) -> Result<Vec<Expression>, Failure>
+    fn read_arguments(&self, tokens: &mut Cursor<'_>) -> Result<Vec<Expression>, Failure>
         requires { Nests self.now.levels (F.pre self.now.read) (F.post self.now.read) }
         ensures { Reads (λ v. map expression_of v.items) (spec.arguments (spec.expression_at self.now.levels) tokens.old.rest.now) result tokens.new.rest.now }
     {
         if tokens.eat_sign(Sign::CloseParen) {
             return Ok(Vec::new(self.alloc));
         }
-        let first = self.expression(tokens)?;
-        let found = self.more_arguments(tokens, first)?;
+        let first = self.read_expression(tokens)?;
+        let found = self.read_more_arguments(tokens, first)?;
         tokens.expect_sign(Sign::CloseParen)?;
         Ok(found)
     }
 
     /// `x` or `m([E {, E}])`, behind the name.
     #[tactic(auto, unfolding(crate::specs::Reading::name_atom))]
-    fn name_atom(&self, tokens: &mut Cursor<'_>, name: &Bytes) -> Result<Atom, Failure>
+    fn read_name_atom(&self, tokens: &mut Cursor<'_>, name: &Bytes) -> Result<Atom, Failure>
         requires { Nests self.now.levels (F.pre self.now.read) (F.post self.now.read) }
         ensures { Reads atom_of (spec.name_atom (spec.expression_at self.now.levels) name.now tokens.old.rest.now) result tokens.new.rest.now }
     {
         let name = Bytes::from_slice(self.alloc, name.as_slice())?;
         if tokens.eat_sign(Sign::OpenParen) {
-            let found = self.arguments(tokens)?;
+            let found = self.read_arguments(tokens)?;
             Ok(Atom::Call(name, found))
         } else {
             Ok(Atom::Name(name))
@@ -87,7 +87,7 @@ impl<F: Fn(Global, &mut Cursor<'_>, usize) -> Result<Expression, Failure>> Gramm
     }
 
     /// `true`, `false` or `println(E)`, behind the word.
-    fn word_atom(&self, tokens: &mut Cursor<'_>, word: Word) -> Result<Atom, Failure>
+    fn read_word_atom(&self, tokens: &mut Cursor<'_>, word: Word) -> Result<Atom, Failure>
         requires { Nests self.now.levels (F.pre self.now.read) (F.post self.now.read) }
         ensures { Reads atom_of (spec.word_atom (spec.expression_at self.now.levels) word tokens.old.rest.now) result tokens.new.rest.now }
     {
@@ -95,20 +95,35 @@ impl<F: Fn(Global, &mut Cursor<'_>, usize) -> Result<Expression, Failure>> Gramm
             Word::True => Ok(Atom::Truth(true)),
             Word::False => Ok(Atom::Truth(false)),
             Word::Println => {
-                let e = self.in_parens(tokens)?;
+                let e = self.read_in_parens(tokens)?;
                 Ok(Atom::Print(Box::new(self.alloc, e)?))
             }
-            _ => Err(Failure::Other),
+            Word::Object
+            | Word::Def
+            | Word::If
+            | Word::Else
+            | Word::While
+            | Word::Val
+            | Word::Var
+            | Word::MainObject
+            | Word::MainMethod
+            | Word::Args
+            | Word::Array
+            | Word::Unit
+            | Word::Boolean
+            | Word::Int
+            | Word::Long
+            | Word::String => Err(Failure::Other),
         }
     }
 
     /// `(E)`, behind the sign.
-    fn sign_atom(&self, tokens: &mut Cursor<'_>, sign: Sign) -> Result<Atom, Failure>
+    fn read_sign_atom(&self, tokens: &mut Cursor<'_>, sign: Sign) -> Result<Atom, Failure>
         requires { Nests self.now.levels (F.pre self.now.read) (F.post self.now.read) }
         ensures { Reads atom_of (spec.sign_atom (spec.expression_at self.now.levels) sign tokens.old.rest.now) result tokens.new.rest.now }
     {
         if sign == Sign::OpenParen {
-            let e = self.inner(tokens)?;
+            let e = self.read_inner(tokens)?;
             Ok(Atom::Paren(Box::new(self.alloc, e)?))
         } else {
             Err(Failure::Other)
@@ -117,14 +132,14 @@ impl<F: Fn(Global, &mut Cursor<'_>, usize) -> Result<Expression, Failure>> Gramm
 
     /// `A ::= number | numberL | true | false | "text" | x | m([E {, E}]) | println(E) | (E)`
     #[tactic(auto, unfolding(crate::specs::Reading::atom))]
-    pub fn atom(&self, tokens: &mut Cursor<'_>) -> Result<Atom, Failure>
+    pub fn read_atom(&self, tokens: &mut Cursor<'_>) -> Result<Atom, Failure>
         requires { Nests self.now.levels (F.pre self.now.read) (F.post self.now.read) }
         ensures { Reads atom_of (spec.atom (spec.expression_at self.now.levels) tokens.old.rest.now) result tokens.new.rest.now }
     {
         match tokens.next()? {
-            Token::Word(word) => self.word_atom(tokens, *word),
-            Token::Sign(sign) => self.sign_atom(tokens, *sign),
-            Token::Name(name) => self.name_atom(tokens, name),
+            Token::Word(word) => self.read_word_atom(tokens, *word),
+            Token::Sign(sign) => self.read_sign_atom(tokens, *sign),
+            Token::Name(name) => self.read_name_atom(tokens, name),
             Token::Int(n) => Ok(Atom::Int(*n)),
             Token::Long(n) => Ok(Atom::Long(*n)),
             Token::Text(text) => Ok(Atom::Text(Bytes::from_slice(self.alloc, text.as_slice())?)),

@@ -14,6 +14,7 @@ use std::alloc::Global;
 /// The tokens that are still to be read.
 #[derive(Clone, Copy)]
 pub(crate) struct Cursor<'a> {
+    /// They, in their order.
     pub rest: &'a [Token],
 }
 

@@ -13,6 +13,7 @@ use std::alloc::Global;
 /// What reads the productions of expressions.
 #[derive(Clone, Copy)]
 pub(crate) struct Grammar<F> {
+    /// What gives memory.
     pub alloc: Global,
     /// How many levels the expressions inside may fit.
     pub levels: usize,
@@ -22,7 +23,7 @@ pub(crate) struct Grammar<F> {
 
 impl<F: Fn(Global, &mut Cursor<'_>, usize) -> Result<Expression, Failure>> Grammar<F> {
     /// An expression one level down.
-    pub fn expression(&self, tokens: &mut Cursor<'_>) -> Result<Expression, Failure>
+    pub fn read_expression(&self, tokens: &mut Cursor<'_>) -> Result<Expression, Failure>
         requires { Nests self.now.levels (F.pre self.now.read) (F.post self.now.read) }
         ensures { Reads expression_of (spec.expression_at self.now.levels tokens.old.rest.now) result tokens.new.rest.now }
     {

@@ -8,7 +8,7 @@ ghost use Rattle.scw_reader.specs.ReadingSource as spec;
 ghost use Rattle.scw_reader.specs.View.{expression_of, method_of, source_of};
 
 use crate::cursor::Cursor;
-use crate::expression::expression;
+use crate::expression::read_expression;
 use crate::failure::Failure;
 use crate::limit::MAX_NESTING;
 use crate::token::{Sign, Token, Word};
@@ -17,7 +17,7 @@ use std::alloc::Global;
 
 /// `x: T`
 #[tactic(auto, unfolding(crate::specs::ReadingSource::parameter_at))]
-fn parameter(alloc: Global, tokens: &mut Cursor<'_>) -> Result<Parameter, Failure>
+fn read_parameter(alloc: Global, tokens: &mut Cursor<'_>) -> Result<Parameter, Failure>
     ensures { Reads (λ p. p) (spec.parameter_at tokens.old.rest.now) result tokens.new.rest.now }
 {
     let name = tokens.expect_name(alloc)?;
@@ -27,7 +27,7 @@ fn parameter(alloc: Global, tokens: &mut Cursor<'_>) -> Result<Parameter, Failur
 }
 
 /// `{, x: T}`, behind the first.
-fn more_parameters(
+fn read_more_parameters(
     alloc: Global,
     tokens: &mut Cursor<'_>,
     first: Parameter,
@@ -40,37 +40,37 @@ fn more_parameters(
         if !tokens.eat_sign(Sign::Comma) {
             return Ok(found);
         }
-        found.push(parameter(alloc, tokens)?)?;
+        found.push(read_parameter(alloc, tokens)?)?;
     }
     Ok(found)
 }
 
 /// `[x: T {, x: T}] )`
 #[tactic(auto, unfolding(crate::specs::ReadingSource::parameters_at))]
-fn parameters(alloc: Global, tokens: &mut Cursor<'_>) -> Result<Vec<Parameter>, Failure>
+fn read_parameters(alloc: Global, tokens: &mut Cursor<'_>) -> Result<Vec<Parameter>, Failure>
     ensures { Reads (λ v. v.items) (spec.parameters_at tokens.old.rest.now) result tokens.new.rest.now }
 {
     if tokens.eat_sign(Sign::CloseParen) {
         return Ok(Vec::new(alloc));
     }
-    let first = parameter(alloc, tokens)?;
-    let found = more_parameters(alloc, tokens, first)?;
+    let first = read_parameter(alloc, tokens)?;
+    let found = read_more_parameters(alloc, tokens, first)?;
     tokens.expect_sign(Sign::CloseParen)?;
     Ok(found)
 }
 
 /// `m([x: T {, x: T}]): T = E`, behind `def`.
 #[tactic(auto, unfolding(crate::specs::ReadingSource::method_at))]
-fn method(alloc: Global, tokens: &mut Cursor<'_>) -> Result<Method, Failure>
+fn read_method(alloc: Global, tokens: &mut Cursor<'_>) -> Result<Method, Failure>
     ensures { Reads method_of (spec.method_at tokens.old.rest.now) result tokens.new.rest.now }
 {
     let name = tokens.expect_name(alloc)?;
     tokens.expect_sign(Sign::OpenParen)?;
-    let parameters = parameters(alloc, tokens)?;
+    let parameters = read_parameters(alloc, tokens)?;
     tokens.expect_sign(Sign::Colon)?;
     let result = tokens.expect_type()?;
     tokens.expect_sign(Sign::Assign)?;
-    let body = expression(alloc, tokens, MAX_NESTING)?;
+    let body = read_expression(alloc, tokens, MAX_NESTING)?;
     Ok(Method {
         name,
         parameters,
@@ -81,7 +81,7 @@ fn method(alloc: Global, tokens: &mut Cursor<'_>) -> Result<Method, Failure>
 
 /// `(args: Array[String])`
 #[tactic(auto, unfolding(crate::specs::ReadingSource::main_clause))]
-fn main_clause(tokens: &mut Cursor<'_>) -> Result<(), Failure>
+fn read_main_clause(tokens: &mut Cursor<'_>) -> Result<(), Failure>
     ensures { Reads (λ u. u) (spec.main_clause tokens.old.rest.now) result tokens.new.rest.now }
 {
     tokens.expect_sign(Sign::OpenParen)?;
@@ -96,19 +96,19 @@ fn main_clause(tokens: &mut Cursor<'_>) -> Result<(), Failure>
 
 /// `(args: Array[String]): Unit = E`, behind `def main`.
 #[tactic(auto, unfolding(crate::specs::ReadingSource::main_at))]
-fn main(alloc: Global, tokens: &mut Cursor<'_>) -> Result<Expression, Failure>
+fn read_main(alloc: Global, tokens: &mut Cursor<'_>) -> Result<Expression, Failure>
     ensures { Reads expression_of (spec.main_at tokens.old.rest.now) result tokens.new.rest.now }
 {
-    main_clause(tokens)?;
+    read_main_clause(tokens)?;
     tokens.expect_sign(Sign::Colon)?;
     tokens.expect_word(Word::Unit)?;
     tokens.expect_sign(Sign::Assign)?;
-    expression(alloc, tokens, MAX_NESTING)
+    read_expression(alloc, tokens, MAX_NESTING)
 }
 
 /// The methods before `main`, with `def main`.
 #[tactic(auto, unfolding(crate::specs::ReadingSource::before_at))]
-fn before(alloc: Global, tokens: &mut Cursor<'_>) -> Result<Vec<Method>, Failure>
+fn read_before(alloc: Global, tokens: &mut Cursor<'_>) -> Result<Vec<Method>, Failure>
     ensures { Reads (λ v. map method_of v.items) (spec.before_at tokens.old.rest.now) result tokens.new.rest.now }
 {
     let mut found = Vec::new(alloc);
@@ -117,7 +117,7 @@ fn before(alloc: Global, tokens: &mut Cursor<'_>) -> Result<Vec<Method>, Failure
         if tokens.eat_word(Word::MainMethod) {
             return Ok(found);
         }
-        let method = method(alloc, tokens)?;
+        let method = read_method(alloc, tokens)?;
         tokens.expect_sign(Sign::Semicolon)?;
         found.push(method)?;
     }
@@ -126,15 +126,15 @@ fn before(alloc: Global, tokens: &mut Cursor<'_>) -> Result<Vec<Method>, Failure
 
 /// `def m([x: T {, x: T}]): T = E`
 #[tactic(auto, unfolding(crate::specs::ReadingSource::def_at))]
-fn definition(alloc: Global, tokens: &mut Cursor<'_>) -> Result<Method, Failure>
+fn read_def(alloc: Global, tokens: &mut Cursor<'_>) -> Result<Method, Failure>
     ensures { Reads method_of (spec.def_at tokens.old.rest.now) result tokens.new.rest.now }
 {
     tokens.expect_word(Word::Def)?;
-    method(alloc, tokens)
+    read_method(alloc, tokens)
 }
 
 /// The methods behind `main`.
-fn after(alloc: Global, tokens: &mut Cursor<'_>) -> Result<Vec<Method>, Failure>
+fn read_after(alloc: Global, tokens: &mut Cursor<'_>) -> Result<Vec<Method>, Failure>
     ensures { Reads (λ v. map method_of v.items) (chain s.Semicolon spec.def_at [] tokens.old.rest.now) result tokens.new.rest.now }
 {
     let mut found = Vec::new(alloc);
@@ -142,22 +142,22 @@ fn after(alloc: Global, tokens: &mut Cursor<'_>) -> Result<Vec<Method>, Failure>
         if !tokens.eat_sign(Sign::Semicolon) {
             return Ok(found);
         }
-        found.push(definition(alloc, tokens)?)?;
+        found.push(read_def(alloc, tokens)?)?;
     }
     Ok(found)
 }
 
 /// `object Main { D {; D} }`, where one method is `main`.
 #[tactic(auto, unfolding(crate::specs::ReadingSource::object_at))]
-fn object(alloc: Global, tokens: &mut Cursor<'_>) -> Result<Source, Failure>
+fn read_object(alloc: Global, tokens: &mut Cursor<'_>) -> Result<Source, Failure>
     ensures { Reads source_of (spec.object_at tokens.old.rest.now) result tokens.new.rest.now }
 {
     tokens.expect_word(Word::Object)?;
     tokens.expect_word(Word::MainObject)?;
     tokens.expect_sign(Sign::OpenBrace)?;
-    let before = before(alloc, tokens)?;
-    let main = main(alloc, tokens)?;
-    let after = after(alloc, tokens)?;
+    let before = read_before(alloc, tokens)?;
+    let main = read_main(alloc, tokens)?;
+    let after = read_after(alloc, tokens)?;
     tokens.expect_sign(Sign::CloseBrace)?;
     Ok(Source {
         before,
@@ -168,11 +168,11 @@ fn object(alloc: Global, tokens: &mut Cursor<'_>) -> Result<Source, Failure>
 
 /// The source whose tokens these are, all of them.
 #[tactic(auto, unfolding(crate::specs::ReadingSource::source_in))]
-pub(crate) fn source_in(alloc: Global, tokens: &[Token]) -> Result<Source, Failure>
+pub(crate) fn read_source(alloc: Global, tokens: &[Token]) -> Result<Source, Failure>
     ensures { Gives source_of result (spec.source_in tokens.now) }
 {
     let mut cursor = Cursor { rest: tokens };
-    let source = object(alloc, &mut cursor)?;
+    let source = read_object(alloc, &mut cursor)?;
     if cursor.left() == 0 {
         Ok(source)
     } else {

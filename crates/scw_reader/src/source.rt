@@ -11,7 +11,7 @@ use crate::depth::expression_depth;
 use crate::failure::Failure;
 use crate::layout::read_tokens;
 use crate::limit::{MAX_BYTES, MAX_DEPTH, MAX_PARAMETERS};
-use crate::method::source_in;
+use crate::method::read_source;
 use crate::tree::{Expression, Method, Parameter, Source};
 use scw_text::NoMemory;
 use std::alloc::Global;
@@ -100,7 +100,7 @@ pub fn read_small(alloc: Global, bytes: &[u8]) -> Result<Option<Source>, NoMemor
     let Some(tokens) = read_tokens(alloc, bytes)? else {
         return Ok(None);
     };
-    match source_in(alloc, tokens.as_slice()) {
+    match read_source(alloc, tokens.as_slice()) {
         Ok(source) => {
             if is_small(&source) {
                 Ok(Some(source))

@@ -1,7 +1,7 @@
 use Rattle.std.proofs.Common.{◌≡◌, ◌-◌, map}
 use Rattle.scw_reader.specs.Reading.{expression_at, parts, parts_from}
 use Rattle.scw_reader.specs.View.{statement_of}
-use Rattle.scw_reader.proofs.grammar.Grammar.parts.Given as goal
+use Rattle.scw_reader.proofs.grammar.Grammar.read_parts.Given as goal
 
 abbrev pub invariant-loop-turn : goal.invariant-loop-turn
 invariant-loop-turn g l =

@@ -4,7 +4,7 @@ use Rattle.scw_reader.specs.Reading.{expression_at, parts_from}
 use Rattle.scw_reader.specs.declared.tree.Atom.{the_lemmas}
 use Rattle.scw_reader.specs.View.{statement_of}
 use Rattle.scw_reader.proofs.TurnLemmas.{one_more, no_more}
-use Rattle.scw_reader.proofs.grammar.Grammar.parts.Goals as goal
+use Rattle.scw_reader.proofs.grammar.Grammar.read_parts.Goals as goal
 
 pub returns-in_err-statement : goal.returns-in_err-statement
 unfolding parts_from

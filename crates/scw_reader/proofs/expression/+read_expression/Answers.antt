@@ -1,7 +1,7 @@
 use Rattle.std.proofs.Common.{◌≡◌, ap, arith}
 use Rattle.scw_reader.specs.Reading.{expression_at}
 use Rattle.scw_reader.proofs.TurnLemmas.{deeper}
-use Rattle.scw_reader.proofs.expression.+expression.Goals as goal
+use Rattle.scw_reader.proofs.expression.+read_expression.Goals as goal
 
 pub returns-then-levels-eq0 : goal.returns-then-levels-eq0
 unfolding expression_at
@@ -9,4 +9,4 @@ returns-then-levels-eq0 t c = let none : c.args.levels ≡ 0 = omega arith in ap
 
 pub returns : goal.returns
 unfolding expression_at
-returns t c = rw (deeper (λ n. expression_at n c.args.tokens.now.rest.now) c.args.levels (omega arith)) c.level.ensures
+returns t c = rw (deeper (λ n. expression_at n c.args.tokens.now.rest.now) c.args.levels (omega arith)) c.read_level.ensures

@@ -3,7 +3,7 @@ use Rattle.scw_reader.specs.declared.token.Sign.TheVariants as s
 use Rattle.scw_reader.specs.Parser.{chain, chain_from}
 use Rattle.scw_reader.specs.Reading.{expression_at, atom}
 use Rattle.scw_reader.specs.View.{atom_of}
-use Rattle.scw_reader.proofs.grammar.Grammar.more_atoms.Given as goal
+use Rattle.scw_reader.proofs.grammar.Grammar.read_more_atoms.Given as goal
 
 abbrev pub invariant-loop-turn : goal.invariant-loop-turn
 invariant-loop-turn g l =

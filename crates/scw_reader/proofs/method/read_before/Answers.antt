@@ -3,7 +3,7 @@ use Rattle.std.proofs.lemmas.Grind.{common_steps}
 use Rattle.scw_reader.specs.ReadingSource.{before_from}
 use Rattle.scw_reader.specs.View.{method_of}
 use Rattle.scw_reader.proofs.TurnLemmas.{one_more, no_more}
-use Rattle.scw_reader.proofs.method.before.Goals as goal
+use Rattle.scw_reader.proofs.method.read_before.Goals as goal
 
 pub returns-in_err-expect_word : goal.returns-in_err-expect_word
 unfolding before_from
