@@ -1,0 +1,16 @@
+pub mod Character
+pub mod Token
+pub mod Layout
+pub mod Outcome
+pub mod Lexing
+pub mod Syntax
+pub mod View
+pub mod Grammar
+pub mod Limits
+pub mod Source
+pub mod Capped
+pub mod Parser
+pub mod Reading
+pub mod PartView
+pub mod Nests
+pub mod ReadingSource
