@@ -1,11 +1,11 @@
-//! Why nothing is read.
+//! Why a part of a source gives nothing.
 
 use std::alloc::{AllocError, AllocFailed};
 
-/// Why a part of a source is not read.
+/// Why a part of a source gives nothing.
 #[derive(Clone, Copy, Debug, PartialEq, Eq)]
-pub(crate) enum Failure {
-    /// What stands there is no such part.
+pub enum Failure {
+    /// It is no such part.
     Other,
     /// Memory ran out.
     NoMemory,

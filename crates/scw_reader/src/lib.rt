@@ -25,6 +25,7 @@ mod tests;
 mod token;
 mod tree;
 
+pub use failure::Failure;
 pub use layout::{Tokens, read_tokens};
 pub use limit::{MAX_BYTES, MAX_DEPTH, MAX_NESTING, MAX_PARAMETERS};
 pub use source::read_small;
