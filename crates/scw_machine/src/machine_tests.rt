@@ -10,6 +10,7 @@ use scw_frame::{
     Target, Value,
 };
 use scw_heap::{Heap, Kind, Ref};
+use scw_outside::{MemSink, SinkFailed};
 use scw_step::State;
 use scw_text::NoMemory;
 use sqlite_items::Items;
@@ -83,6 +84,42 @@ fn machine(alloc: Global, number: u32, operations: &[Operation]) -> Result<Machi
     Ok(Machine::start(program, state, Output::new(alloc, 4)?))
 }
 
+/// What a run came to.
+#[derive(Clone, Copy)]
+pub struct Ran {
+    pub end: End,
+    pub done: u64,
+    /// How many bytes were put.
+    pub taken: usize,
+}
+
+/// Runs the method for at most so many rows. A test gets numbers and no machine, of which all that is known would have to
+/// be proved again at each of the test's ways out.
+fn run(alloc: Global, number: u32, operations: &[Operation], steps: u64) -> Result<Ran, NoMemory> {
+    let mut out = sink(alloc, 0)?;
+    let mut machine = machine(alloc, number, operations)?;
+    let end = machine.run(&mut out, steps);
+    Ok(Ran {
+        end,
+        done: machine.done(),
+        taken: out.taken().len(),
+    })
+}
+
+/// Does one row, and counts it.
+fn step(alloc: Global, operation: Operation) -> Result<(Turn, u64), NoMemory> {
+    let mut out = sink(alloc, 0)?;
+    let mut machine = machine(alloc, 1, &[operation])?;
+    let turn = machine.step(&mut out);
+    Ok((turn, machine.done()))
+}
+
+/// Tells of what is no object.
+fn tell(alloc: Global, out: &mut MemSink) -> Result<Result<(), SinkFailed>, NoMemory> {
+    let machine = machine(alloc, 1, &[])?;
+    Ok(machine.tell(Ref(1), out))
+}
+
 /// An instruction of the method that isn't defined.
 fn stuck(at: u32) -> End {
     End::Stuck(Place {
@@ -113,21 +150,18 @@ fn a_run_stops_where_it_must(rt: HostRuntime) -> Result<(), Fail> {
         ([CALL].as_slice(), 9, End::Frames, 0, "one frame is all"),
         (short.as_slice(), 9, stuck(2001), 1, "the code ends"),
     ] {
-        let mut sink = sink(alloc, 0)?;
-        let mut machine = machine(alloc, 1, operations)?;
-        assert_eq!(rt; machine.run(&mut sink, steps), end, "{shows}");
-        assert_eq!(rt; machine.done(), done, "{shows}");
-        assert_eq!(rt; sink.taken(), "".as_bytes(), "{shows}");
+        let ran = run(alloc, 1, operations, steps)?;
+        assert_eq!(rt; ran.end, end, "{shows}");
+        assert_eq!(rt; ran.done, done, "{shows}");
+        assert_eq!(rt; ran.taken, 0, "{shows}");
     }
     Ok(())
 }
 
 #[test]
 fn the_first_method_has_no_places_of_its_own(rt: HostRuntime) -> Result<(), Fail> {
-    let alloc = rt.alloc();
-    let mut sink = sink(alloc, 0)?;
-    let mut machine = machine(alloc, 0, &[Operation::Nothing])?;
-    assert_eq!(rt; machine.run(&mut sink, 9), stuck(1000));
+    let ran = run(rt.alloc(), 0, &[Operation::Nothing], 9)?;
+    assert_eq!(rt; ran.end, stuck(1000));
     Ok(())
 }
 
@@ -139,10 +173,9 @@ fn a_step_is_one_row(rt: HostRuntime) -> Result<(), Fail> {
         (Operation::Return, Turn::Done(End::Ended), 1, "it returns"),
         (Operation::Undefined, Turn::Done(stuck(2000)), 0, "it stops"),
     ] {
-        let mut sink = sink(alloc, 0)?;
-        let mut machine = machine(alloc, 1, &[operation])?;
-        assert_eq!(rt; machine.step(&mut sink), turn, "{shows}");
-        assert_eq!(rt; machine.done(), done, "{shows}");
+        let (answer, rows) = step(alloc, operation)?;
+        assert_eq!(rt; answer, turn, "{shows}");
+        assert_eq!(rt; rows, done, "{shows}");
     }
     Ok(())
 }
@@ -196,9 +229,14 @@ fn any_number_is_told_in_a_line(rt: HostRuntime) -> Result<(), Fail> {
         assert_eq!(rt; put_throwable(&program, &heap, r, &mut sink), Ok(()));
         assert_eq!(rt; sink.taken(), line.as_bytes(), "{shows}");
     }
-    let machine = machine(alloc, 1, &[])?;
+    Ok(())
+}
+
+#[test]
+fn a_machine_tells_what_is_no_object(rt: HostRuntime) -> Result<(), Fail> {
+    let alloc = rt.alloc();
     let mut sink = sink(alloc, 0)?;
-    assert_eq!(rt; machine.tell(Ref(1), &mut sink), Ok(()));
+    assert_eq!(rt; tell(alloc, &mut sink)?, Ok(()));
     assert_eq!(rt; sink.taken(), "exception \n".as_bytes());
     Ok(())
 }

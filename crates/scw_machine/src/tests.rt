@@ -1,11 +1,13 @@
 //! Three class files of `javac` (Java 8, without debug attributes), loaded and run to a limit. The rows, lines and units
 //! were counted by hand.
 
-ghost use Rattle.std.specs.Prelude.{◌≡◌, IfOk, true};
+ghost use Rattle.std.specs.Prelude.{◌≡◌, IfOk, length};
 
-use crate::{End, LoadFault, Machine, load};
-use scw_classfile::FileOut;
+use crate::machine_tests::Ran;
+use crate::{End, LoadFault, load};
+use scw_classfile::{FileOut, Files};
 use scw_outside::MemSink;
+use scw_text::{NoMemory, Text};
 use sqlite_items::Items;
 use std::alloc::Global;
 use std::test::Fail;
@@ -66,49 +68,56 @@ const CHAIN: [u8; 323] = [
     0, 19, 0, 0, 0, 3, 0, 1, 0, 0, 0,
 ];
 
-/// A machine of one file, with a heap of 1,000 units and 100,000 frames.
-fn machine(alloc: Global, bytes: &[u8], name: &str) -> Result<Machine, LoadFault>
-    ensures live { IfOk result (λ m. m.live ≡ true) }
-    ensures done { IfOk result (λ m. m.done ≡ 0) }
+/// The one file of these bytes.
+fn file(alloc: Global, bytes: &[u8]) -> Result<Files, NoMemory>
+    ensures { IfOk result (λ files. length files ≡ 1) }
 {
-    let mut main = Items::new(alloc);
-    for c in name.chars() {
-        main.push(c)?;
-    }
     let mut files = Items::new(alloc);
     files.push(FileOut {
         name: Items::new(alloc),
         bytes: Items::from_slice(alloc, bytes)?,
     })?;
-    if files.len() > 1 {
-        return Err(LoadFault::NoMain);
+    Ok(files)
+}
+
+fn text(alloc: Global, name: &str) -> Result<Text, NoMemory> {
+    let mut text = Items::new(alloc);
+    for c in name.chars() {
+        text.push(c)?;
     }
-    load(alloc, &files, &main, 1_000, 100_000, 600_000)
+    Ok(text)
+}
+
+/// Runs the object of one file for at most so many rows, with a heap of 1,000 units and 100,000 frames. A test gets numbers
+/// and no machine, of which all that is known would have to be proved again at each of the test's ways out.
+fn run(alloc: Global, bytes: &[u8], name: &str, steps: u64) -> Result<Ran, LoadFault> {
+    let main = text(alloc, name)?;
+    let files = file(alloc, bytes)?;
+    let mut out = MemSink::new(alloc, 10_000, Items::new(alloc))?;
+    let mut machine = load(alloc, &files, &main, 1_000, 100_000, 600_000)?;
+    let end = machine.run(&mut out, steps);
+    Ok(Ran {
+        end,
+        done: machine.done(),
+        taken: out.taken().len(),
+    })
 }
 
 #[test]
-fn a_run_stops_at_its_limit_and_goes_on(rt: HostRuntime) -> Result<(), Fail> {
-    let mut machine = machine(rt.alloc(), &ENDLESS, "Endless")?;
-    let mut out = MemSink::new(rt.alloc(), 10_000, Items::new(rt.alloc()))?;
-    let end = machine.run(&mut out, 1_000);
-    assert_eq!(rt; end, End::Steps);
-    assert_eq!(rt; machine.done(), 1_000);
-    assert_eq!(rt;
-        out.taken().len(),
-        660,
-        "11 rows to `main`, and 3 for each line"
-    );
+fn a_run_stops_at_its_limit(rt: HostRuntime) -> Result<(), Fail> {
+    let ran = run(rt.alloc(), &ENDLESS, "Endless", 1_000)?;
+    assert_eq!(rt; ran.end, End::Steps);
+    assert_eq!(rt; ran.done, 1_000);
+    assert_eq!(rt; ran.taken, 660, "11 rows to `main`, and 3 for each line");
     Ok(())
 }
 
 #[test]
 fn calls_without_end_need_a_frame_too_many(rt: HostRuntime) -> Result<(), Fail> {
-    let mut machine = machine(rt.alloc(), &DEEP, "Deep")?;
-    let mut out = MemSink::new(rt.alloc(), 0, Items::new(rt.alloc()))?;
-    let end = machine.run(&mut out, 10_000_000);
-    assert_eq!(rt; end, End::Frames);
+    let ran = run(rt.alloc(), &DEEP, "Deep", 10_000_000)?;
+    assert_eq!(rt; ran.end, End::Frames);
     assert_eq!(rt;
-        machine.done(),
+        ran.done,
         300_007,
         "11 rows to `main`, 3 for each further frame, and 2"
     );
@@ -117,12 +126,10 @@ fn calls_without_end_need_a_frame_too_many(rt: HostRuntime) -> Result<(), Fail> 
 
 #[test]
 fn objects_without_end_need_a_unit_too_many(rt: HostRuntime) -> Result<(), Fail> {
-    let mut machine = machine(rt.alloc(), &CHAIN, "Chain")?;
-    let mut out = MemSink::new(rt.alloc(), 0, Items::new(rt.alloc()))?;
-    let end = machine.run(&mut out, 10_000_000);
-    assert_eq!(rt; end, End::HeapFull { need: 2 });
+    let ran = run(rt.alloc(), &CHAIN, "Chain", 10_000_000)?;
+    assert_eq!(rt; ran.end, End::HeapFull { need: 2 });
     assert_eq!(rt;
-        machine.done(),
+        ran.done,
         7_481,
         "3 units first; 498 objects of 2, with 15 rows each"
     );
@@ -131,9 +138,9 @@ fn objects_without_end_need_a_unit_too_many(rt: HostRuntime) -> Result<(), Fail>
 
 #[test]
 fn files_without_the_object_are_refused(rt: HostRuntime) -> Result<(), Fail> {
-    let refused = machine(rt.alloc(), &CHAIN, "Other");
+    let refused = run(rt.alloc(), &CHAIN, "Other", 0);
     assert!(rt; matches!(refused, Err(LoadFault::NoMain)));
-    let cut = machine(rt.alloc(), &[0xca, 0xfe], "Other");
+    let cut = run(rt.alloc(), &[0xca, 0xfe], "Other", 0);
     assert!(rt; matches!(cut, Err(LoadFault::Bad { file: 0, .. })));
     Ok(())
 }
