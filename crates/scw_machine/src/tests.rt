@@ -1,10 +1,10 @@
 //! Three class files of `javac` (Java 8, without debug attributes), loaded and run to a limit. The rows, lines and units
 //! were counted by hand.
 
-ghost use Rattle.std.specs.Prelude.{◌≡◌, IfOk, length};
+ghost use Rattle.std.specs.Prelude.{◌≡◌, IfOk, length, true};
 
 use crate::machine_tests::Ran;
-use crate::{End, LoadFault, load};
+use crate::{End, LoadFault, Machine, load};
 use scw_classfile::{FileOut, Files};
 use scw_outside::MemSink;
 use scw_text::{NoMemory, Text};
@@ -88,13 +88,20 @@ fn text(alloc: Global, name: &str) -> Result<Text, NoMemory> {
     Ok(text)
 }
 
-/// Runs the object of one file for at most so many rows, with a heap of 1,000 units and 100,000 frames. A test gets numbers
-/// and no machine, of which all that is known would have to be proved again at each of the test's ways out.
-fn run(alloc: Global, bytes: &[u8], name: &str, steps: u64) -> Result<Ran, LoadFault> {
+/// Loads the object of one file, with a heap of 1,000 units and 100,000 frames.
+fn machine(alloc: Global, bytes: &[u8], name: &str) -> Result<Machine, LoadFault>
+    ensures { IfOk result (λ m. (m.live ≡ true) × (m.done ≡ 0)) }
+{
     let main = text(alloc, name)?;
     let files = file(alloc, bytes)?;
+    load(alloc, &files, &main, 1_000, 100_000, 600_000)
+}
+
+/// Runs it for at most so many rows. A test gets numbers and no machine, of which all that is known would have to be proved
+/// again at each of the test's ways out.
+fn run(alloc: Global, bytes: &[u8], name: &str, steps: u64) -> Result<Ran, LoadFault> {
     let mut out = MemSink::new(alloc, 10_000, Items::new(alloc))?;
-    let mut machine = load(alloc, &files, &main, 1_000, 100_000, 600_000)?;
+    let mut machine = machine(alloc, bytes, name)?;
     let end = machine.run(&mut out, steps);
     Ok(Ran {
         end,
@@ -103,12 +110,37 @@ fn run(alloc: Global, bytes: &[u8], name: &str, steps: u64) -> Result<Ran, LoadF
     })
 }
 
+/// Runs it for so many rows, and then for so many more. None where it isn't stopped by its limit.
+fn run_on(
+    alloc: Global,
+    bytes: &[u8],
+    name: &str,
+    steps: u32,
+    more: u32,
+) -> Result<Option<Ran>, LoadFault> {
+    let mut out = MemSink::new(alloc, 10_000, Items::new(alloc))?;
+    let mut machine = machine(alloc, bytes, name)?;
+    let End::Steps = machine.run(&mut out, u64::from(steps)) else {
+        return Ok(None);
+    };
+    let end = machine.run(&mut out, u64::from(more));
+    Ok(Some(Ran {
+        end,
+        done: machine.done(),
+        taken: out.taken().len(),
+    }))
+}
+
 #[test]
-fn a_run_stops_at_its_limit(rt: HostRuntime) -> Result<(), Fail> {
+fn a_run_stops_at_its_limit_and_goes_on(rt: HostRuntime) -> Result<(), Fail> {
     let ran = run(rt.alloc(), &ENDLESS, "Endless", 1_000)?;
     assert_eq!(rt; ran.end, End::Steps);
     assert_eq!(rt; ran.done, 1_000);
     assert_eq!(rt; ran.taken, 660, "11 rows to `main`, and 3 for each line");
+    let ran = run_on(rt.alloc(), &ENDLESS, "Endless", 1_000, 3)?.ok_or("another end")?;
+    assert_eq!(rt; ran.end, End::Steps);
+    assert_eq!(rt; ran.done, 1_003);
+    assert_eq!(rt; ran.taken, 662, "a line more");
     Ok(())
 }
 
