@@ -62,17 +62,8 @@ const STRINGS: [(&[u8], &str); 2] = [
 ];
 
 /// A string that is put into an array of `Integer`. Behind it null would lie on the stack.
-const STORE: &[u8] = &[
-    ICONST_1,
-    ANEWARRAY,
-    0,
-    INTEGER,
-    ICONST_0,
-    LDC,
-    44,
-    AASTORE,
-    ACONST_NULL,
-];
+#[rattlefmt::skip]
+const STORE: &[u8] = &[ICONST_1, ANEWARRAY, 0, INTEGER, ICONST_0, LDC, TEXT_A, AASTORE, ACONST_NULL];
 
 /// `throw new RuntimeException("a")`
 #[rattlefmt::skip]
