@@ -5,7 +5,7 @@
 
 use crate::opcode::*;
 use crate::pool::*;
-use crate::program::{Shown, prints};
+use crate::program::{Case, Shown, prints};
 use std::test::Fail;
 
 #[rattlefmt::skip]
@@ -137,7 +137,7 @@ const STACKS: [(&[u8], &[Shown], &str); 17] = [
 #[test]
 fn numbers_of_32_bits_are_computed(rt: HostRuntime) -> Result<(), Fail> {
     for (code, wanted) in INTS {
-        prints(&rt, rt.alloc(), code, &[Shown::Int], wanted)?;
+        prints(&rt, rt.alloc(), &Case::new(code, &[Shown::Int]), wanted)?;
     }
     Ok(())
 }
@@ -145,7 +145,7 @@ fn numbers_of_32_bits_are_computed(rt: HostRuntime) -> Result<(), Fail> {
 #[test]
 fn numbers_of_64_bits_are_computed(rt: HostRuntime) -> Result<(), Fail> {
     for (code, wanted) in LONGS {
-        prints(&rt, rt.alloc(), code, &[Shown::Long], wanted)?;
+        prints(&rt, rt.alloc(), &Case::new(code, &[Shown::Long]), wanted)?;
     }
     Ok(())
 }
@@ -153,12 +153,12 @@ fn numbers_of_64_bits_are_computed(rt: HostRuntime) -> Result<(), Fail> {
 #[test]
 fn variables_keep_what_is_put(rt: HostRuntime) -> Result<(), Fail> {
     let (code, wanted) = INT_VARIABLES;
-    prints(&rt, rt.alloc(), code, &[I, I, I, I, I], wanted)?;
+    prints(&rt, rt.alloc(), &Case::new(code, &[I, I, I, I, I]), wanted)?;
     for (code, wanted) in LONG_VARIABLES {
-        prints(&rt, rt.alloc(), code, &[Shown::Long], wanted)?;
+        prints(&rt, rt.alloc(), &Case::new(code, &[Shown::Long]), wanted)?;
     }
     for (code, wanted) in STRINGS {
-        prints(&rt, rt.alloc(), code, &[Shown::Text], wanted)?;
+        prints(&rt, rt.alloc(), &Case::new(code, &[Shown::Text]), wanted)?;
     }
     Ok(())
 }
@@ -166,7 +166,7 @@ fn variables_keep_what_is_put(rt: HostRuntime) -> Result<(), Fail> {
 #[test]
 fn the_stack_is_put_in_order(rt: HostRuntime) -> Result<(), Fail> {
     for (code, shown, wanted) in STACKS {
-        prints(&rt, rt.alloc(), code, shown, wanted)?;
+        prints(&rt, rt.alloc(), &Case::new(code, shown), wanted)?;
     }
     Ok(())
 }

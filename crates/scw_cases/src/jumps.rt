@@ -3,7 +3,7 @@
 //! Distances are counted from the opcode of the jump.
 
 use crate::opcode::*;
-use crate::program::{Shown, prints};
+use crate::program::{Case, Shown, prints};
 use std::alloc::{AllocError, Global};
 use std::test::Fail;
 
@@ -115,7 +115,7 @@ fn a_test_jumps_or_goes_on(rt: HostRuntime) -> Result<(), Fail> {
         code.push(test)?;
         code.extend_from_slice(&TEST_ENDS)?;
         let wanted = if jumps { "1" } else { "0" };
-        prints(&rt, alloc, &code, &[Shown::Int], wanted)?;
+        prints(&rt, alloc, &Case::new(&code, &[Shown::Int]), wanted)?;
     }
     Ok(())
 }
@@ -123,7 +123,7 @@ fn a_test_jumps_or_goes_on(rt: HostRuntime) -> Result<(), Fail> {
 #[test]
 fn a_jump_leads_on_and_back(rt: HostRuntime) -> Result<(), Fail> {
     for (code, wanted) in JUMPS {
-        prints(&rt, rt.alloc(), code, &[Shown::Int], wanted)?;
+        prints(&rt, rt.alloc(), &Case::new(code, &[Shown::Int]), wanted)?;
     }
     Ok(())
 }
@@ -140,9 +140,9 @@ fn a_switch_leads_to_the_case_of_its_number(rt: HostRuntime) -> Result<(), Fail>
         (ICONST_5, "0", "2"),
     ] {
         let code = joined(alloc, &[number], &TABLE)?;
-        prints(&rt, alloc, &code, &[Shown::Int], table)?;
+        prints(&rt, alloc, &Case::new(&code, &[Shown::Int]), table)?;
         let code = joined(alloc, &[number], &LOOKUP)?;
-        prints(&rt, alloc, &code, &[Shown::Int], lookup)?;
+        prints(&rt, alloc, &Case::new(&code, &[Shown::Int]), lookup)?;
     }
     Ok(())
 }

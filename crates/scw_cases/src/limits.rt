@@ -11,12 +11,7 @@ use std::test::Fail;
 
 /// The run of the code in so many units of heap, for at most so many rows.
 fn ran(alloc: Global, code: &[u8], heap: u32, steps: u64) -> Result<Ran, Fail> {
-    let case = Case {
-        code,
-        caught: None,
-        shown: &[],
-    };
-    run(alloc, &case, Limits { heap, steps })
+    run(alloc, &Case::new(code, &[]), Limits { heap, steps })
 }
 
 /// `while (true) print("1\n")`: the rows past 11 are 329 times three, and the two that print once more.

@@ -65,6 +65,9 @@ const STRINGS: [(&[u8], &str); 2] = [
 #[rattlefmt::skip]
 const STORE: &[u8] = &[ICONST_1, ANEWARRAY, 0, INTEGER, ICONST_0, LDC, TEXT_A, AASTORE, ACONST_NULL];
 
+/// `1 / 0`
+const DIVISION: &[u8] = &[ICONST_1, ICONST_0, IDIV];
+
 /// `throw new RuntimeException("a")`
 #[rattlefmt::skip]
 const THROW: &[u8] = &[NEW, 0, RUNTIME, DUP, LDC, TEXT_A, INVOKESPECIAL, 0, RUNTIME_INIT_OF_STRING, ATHROW];
@@ -76,7 +79,7 @@ const CAUGHT: [(&[u8], u8, &str); 19] = [
     (STORE, RUNTIME, "java.lang.ArrayStoreException"), // by RuntimeException
     (STORE, THROWABLE, "java.lang.ArrayStoreException"), // by Throwable
     (STORE, 0, "java.lang.ArrayStoreException"),
-    (&[ICONST_1, ICONST_0, IDIV], ARITHMETIC, "java.lang.ArithmeticException: / by zero"),
+    (DIVISION, ARITHMETIC, "java.lang.ArithmeticException: / by zero"),
     (&[ICONST_1, ICONST_0, IREM], ARITHMETIC, "java.lang.ArithmeticException: / by zero"),
     (&[LCONST_1, LCONST_0, LDIV], ARITHMETIC, "java.lang.ArithmeticException: / by zero"),
     (&[LCONST_1, LCONST_0, LREM], ARITHMETIC, "java.lang.ArithmeticException: / by zero"),
@@ -93,39 +96,19 @@ const CAUGHT: [(&[u8], u8, &str); 19] = [
     (THROW, RUNTIME, "java.lang.RuntimeException: a"),
 ];
 
-/// Whether what is caught in the code by a handler for the class shows so.
-fn catches(
-    rt: &impl Abort,
-    alloc: Global,
-    code: &[u8],
-    class: u8,
-    shown: Shown,
-    wanted: &str,
-) -> Result<(), Fail> {
-    let case = Case {
-        code,
-        caught: Some(class),
-        shown: &[shown],
-    };
-    let ran = run(alloc, &case, USUAL)?;
-    assert_eq!(rt; ran.end, End::Ended, "{code:?}");
-    assert_eq!(rt; ran.taken.as_slice(), wanted.as_bytes(), "{code:?}");
-    Ok(())
-}
-
 #[test]
 fn objects_and_arrays_keep_what_is_put(rt: HostRuntime) -> Result<(), Fail> {
     for (code, wanted) in INTS {
-        prints(&rt, rt.alloc(), code, &[Shown::Int], wanted)?;
+        prints(&rt, rt.alloc(), &Case::new(code, &[Shown::Int]), wanted)?;
     }
     for (code, wanted) in LONGS {
-        prints(&rt, rt.alloc(), code, &[Shown::Long], wanted)?;
+        prints(&rt, rt.alloc(), &Case::new(code, &[Shown::Long]), wanted)?;
     }
     for (code, wanted) in OBJECTS {
-        prints(&rt, rt.alloc(), code, &[Shown::Object], wanted)?;
+        prints(&rt, rt.alloc(), &Case::new(code, &[Shown::Object]), wanted)?;
     }
     for (code, wanted) in STRINGS {
-        prints(&rt, rt.alloc(), code, &[Shown::Text], wanted)?;
+        prints(&rt, rt.alloc(), &Case::new(code, &[Shown::Text]), wanted)?;
     }
     Ok(())
 }
@@ -133,23 +116,27 @@ fn objects_and_arrays_keep_what_is_put(rt: HostRuntime) -> Result<(), Fail> {
 #[test]
 fn an_exception_is_caught_by_its_class(rt: HostRuntime) -> Result<(), Fail> {
     for (code, class, wanted) in CAUGHT {
-        catches(&rt, rt.alloc(), code, class, Shown::Object, wanted)?;
+        let case = Case {
+            code,
+            caught: Some(class),
+            shown: &[Shown::Object],
+        };
+        prints(&rt, rt.alloc(), &case, wanted)?;
     }
     Ok(())
 }
 
 #[test]
 fn the_machine_gives_few_messages(rt: HostRuntime) -> Result<(), Fail> {
-    let division: &[u8] = &[ICONST_1, ICONST_0, IDIV];
-    catches(
-        &rt,
-        rt.alloc(),
-        division,
-        ARITHMETIC,
-        Shown::Message,
-        "/ by zero",
-    )?;
-    catches(&rt, rt.alloc(), STORE, ARRAY_STORE, Shown::Message, "null")
+    for (code, wanted) in [(DIVISION, "/ by zero"), (STORE, "null"), (THROW, "a")] {
+        let case = Case {
+            code,
+            caught: Some(THROWABLE),
+            shown: &[Shown::Message],
+        };
+        prints(&rt, rt.alloc(), &case, wanted)?;
+    }
+    Ok(())
 }
 
 /// Whether what is thrown isn't caught by the handler for the class, and is told so.

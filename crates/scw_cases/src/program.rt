@@ -47,6 +47,17 @@ pub struct Case<'c> {
     pub shown: &'c [Shown],
 }
 
+impl<'c> Case<'c> {
+    /// The case that catches nothing.
+    pub fn new(code: &'c [u8], shown: &'c [Shown]) -> Case<'c> {
+        Case {
+            code,
+            caught: None,
+            shown,
+        }
+    }
+}
+
 /// How far a run may go.
 #[derive(Clone, Copy)]
 pub struct Limits {
@@ -54,6 +65,12 @@ pub struct Limits {
     pub heap: u32,
     pub steps: u64,
 }
+
+/// A heap of 10,000 units, and more rows than any case needs.
+pub const USUAL: Limits = Limits {
+    heap: 10_000,
+    steps: 1_000,
+};
 
 /// What a run came to.
 #[derive(Drop)]
@@ -119,26 +136,10 @@ pub fn run(alloc: Global, case: &Case<'_>, limits: Limits) -> Result<Ran, Fail> 
     })
 }
 
-/// A heap of 10,000 units, and more rows than any case needs.
-pub const USUAL: Limits = Limits {
-    heap: 10_000,
-    steps: 1_000,
-};
-
-/// Whether the code, and the printing behind it, puts just this.
-pub fn prints(
-    rt: &impl Abort,
-    alloc: Global,
-    code: &[u8],
-    shown: &[Shown],
-    wanted: &str,
-) -> Result<(), Fail> {
-    let case = Case {
-        code,
-        caught: None,
-        shown,
-    };
-    let ran = run(alloc, &case, USUAL)?;
+/// Whether the case ends, and puts just this.
+pub fn prints(rt: &impl Abort, alloc: Global, case: &Case<'_>, wanted: &str) -> Result<(), Fail> {
+    let code = case.code;
+    let ran = run(alloc, case, USUAL)?;
     assert_eq!(rt; ran.end, End::Ended, "{code:?}");
     assert_eq!(rt; ran.taken.as_slice(), wanted.as_bytes(), "{code:?}");
     Ok(())
