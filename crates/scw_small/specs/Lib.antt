@@ -1,0 +1,10 @@
+pub mod Symbol
+pub mod TypeView
+pub mod Typed
+pub mod Rule
+pub mod Step
+pub mod NameView
+pub mod Typing
+pub mod Whole
+pub mod View
+pub mod Says
