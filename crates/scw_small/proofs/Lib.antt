@@ -1,2 +1,4 @@
 mod NameLemmas
+mod TypesLemmas
+mod MainLemmas
 mod Examples

@@ -1,6 +1,7 @@
 //! The program of a source: SLS 5.4, 9.5.
 
-ghost use Rattle.std.specs.Prelude.{◌≡◌, Some, IfOk, IfSome, IfNone, map, option_map};
+ghost use Rattle.std.specs.Prelude.{◌≡◌, Some, IfOk, IfSome, IfNone, IsSome, map, option_map, codes};
+ghost use Rattle.scw_core.specs.Entry.{main_method};
 ghost use Rattle.scw_core.specs.Program as core;
 ghost use Rattle.scw_core.specs.ProgramOf.{program_of, table_of, template_of, entry_of};
 ghost use Rattle.scw_core.specs.TypesOf.{core_type_of};
@@ -207,7 +208,10 @@ fn typed_source(alloc: Global, source: &Source) -> Result<Program, Failure>
 ///
 /// `NoMemory` where memory runs out.
 pub fn typed_program(alloc: Global, source: &Source) -> Result<Option<Program>, NoMemory>
-    ensures { IfOk result (λ p. option_map program_of p ≡ spec.typed (source_of source.now)) }
+    ensures typed { IfOk result (λ p. option_map program_of p ≡ spec.typed (source_of source.now)) }
+
+    // The program has a `main` to begin with.
+    ensures main { IfOk result (λ p. IfSome p (λ p. IsSome (main_method (table_of p.table) (codes "Main")))) }
 {
     match typed_source(alloc, source) {
         Ok(program) => Ok(Some(program)),
@@ -225,6 +229,7 @@ pub fn read_program(alloc: Global, bytes: &[u8]) -> Result<Option<Program>, NoMe
     ensures ok { IfOk result (λ read. IfSome read (λ p. SaysProgram bytes.now (program_of p))) }
     ensures only { IfOk result (λ read. IfSome read (λ p. (other : core.Program) → SaysProgram bytes.now other → other ≡ program_of p)) }
     ensures none { IfOk result (λ read. IfNone read ((other : core.Program) → SaysProgram bytes.now other → ⊥)) }
+    ensures main { IfOk result (λ read. IfSome read (λ p. IsSome (main_method (table_of p.table) (codes "Main")))) }
 {
     match read_small(alloc, bytes)? {
         Some(source) => typed_program(alloc, &source),
