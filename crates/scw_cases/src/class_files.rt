@@ -9,7 +9,7 @@ use std::test::Fail;
 
 /// `interface A {}` in a file `A.java`: 83 bytes.
 #[rattlefmt::skip]
-const INTERFACE: [u8; 83] = [
+pub const INTERFACE: [u8; 83] = [
     // magic, minor_version, major_version
     0xca, 0xfe, 0xba, 0xbe, 0, 0, 0, 52,
     // constant_pool_count, and the entries 1 to 6

@@ -29,6 +29,8 @@ mod pool;
 #[cfg(test)]
 mod program;
 #[cfg(test)]
+mod shown;
+#[cfg(test)]
 mod values;
 #[cfg(test)]
 mod words;

@@ -15,5 +15,9 @@ pub mod MachineRun
 pub mod CameTo
 pub mod Corresponds
 pub mod Words
+pub mod JobView
+pub mod Rules
+pub mod Read
+pub mod Show
 pub mod Status
 pub mod Job

@@ -3,7 +3,7 @@
 ghost use Rattle.std.specs.Prelude.{◌≡◌, None};
 ghost use Rattle.scw_tool.specs.Status.{number_of, status_of, files_of, steps_of};
 
-use scw_classfile::Files;
+use scw_classfile::{ClassRefusal, Files};
 use scw_text::Refusal;
 use sqlite_items::Items;
 use std::alloc::Global;
@@ -19,6 +19,8 @@ pub enum Status {
     ReadFault,
     /// The output took no more.
     WriteFault,
+    /// The file is no class file.
+    BadClass(ClassRefusal),
     /// Memory ran out.
     NoMemory,
     /// The source has a form that isn't built yet.
@@ -35,6 +37,7 @@ impl Status {
             Status::Words => 2,
             Status::ReadFault => 3,
             Status::WriteFault => 4,
+            Status::BadClass(_) => 11,
             Status::NoMemory => 12,
             Status::NotBuilt => 14,
         }
@@ -58,9 +61,14 @@ pub struct Outcome {
 #[derive(Drop)]
 pub enum Answer {
     Done(Files, u64),
+    /// The text of a class file was put.
+    Shown,
     Words,
     ReadFault,
     WriteFault(Files, u64),
+    /// The text of a class file wasn't taken whole.
+    ShowFault,
+    BadClass(ClassRefusal),
     NoMemory,
     NotBuilt,
 }
@@ -70,10 +78,11 @@ impl Answer {
         ensures { result ≡ status_of self.now }
     {
         match self {
-            Answer::Done(_, _) => Status::Done,
+            Answer::Done(_, _) | Answer::Shown => Status::Done,
             Answer::Words => Status::Words,
             Answer::ReadFault => Status::ReadFault,
-            Answer::WriteFault(_, _) => Status::WriteFault,
+            Answer::WriteFault(_, _) | Answer::ShowFault => Status::WriteFault,
+            Answer::BadClass(refusal) => Status::BadClass(*refusal),
             Answer::NoMemory => Status::NoMemory,
             Answer::NotBuilt => Status::NotBuilt,
         }
@@ -88,9 +97,13 @@ impl Answer {
         let status = self.status().number();
         let (files, steps) = match self {
             Answer::Done(files, steps) | Answer::WriteFault(files, steps) => (files, steps),
-            Answer::Words | Answer::ReadFault | Answer::NoMemory | Answer::NotBuilt => {
-                (Items::new(alloc), 0)
-            }
+            Answer::Shown
+            | Answer::Words
+            | Answer::ReadFault
+            | Answer::ShowFault
+            | Answer::BadClass(_)
+            | Answer::NoMemory
+            | Answer::NotBuilt => (Items::new(alloc), 0),
         };
         Outcome {
             status,

@@ -1,4 +1,4 @@
-//! The compiler of one object that prints one expression, and its top call.
+//! The compiler of one object that prints one expression, the text of class files, and the top call.
 #![tactic(auto)]
 
 mod answer;
@@ -10,6 +10,7 @@ mod instr;
 mod names;
 mod pipeline;
 mod reader;
+mod show;
 mod sum_tree;
 mod top;
 mod tree;

@@ -8,13 +8,18 @@ ghost use Rattle.scw_outside.specs.Content.{HasName};
 ghost use Rattle.scw_tool.specs.Job.{Edge, Comes, PrintsValue, Executed, CutOff, Judged, IsReady, Went, has_run, is_judged};
 ghost use Rattle.scw_tool.specs.Status.{IsStatus, SaysLine};
 ghost use Rattle.scw_tool.specs.Source.{Sum, fits_sum};
-ghost use Rattle.scw_tool.specs.Words.{job_file, job_name};
+ghost use Rattle.scw_classfile.specs.declared.class_file.ClassFile.{ClassFile};
+ghost use Rattle.scw_tool.specs.JobView.{seen_job};
+ghost use Rattle.scw_tool.specs.Show.{IsReadyClass, JudgedClass, Shown, ShownInPart, is_judged_class};
+ghost use Rattle.scw_tool.specs.Words.{job_file, job_name, job_of, IsMode};
+ghost use Rattle.scw_tool.specs.declared.words.Mode.TheVariants.{Run, Dis};
 
 use crate::answer::{Answer, Outcome};
 use crate::error_line::report;
 use crate::pipeline::{make, prepare};
 use crate::reader::{Sum, read_source};
-use crate::words::{file_of, name_of};
+use crate::show::show_file;
+use crate::words::{Job, Mode, file_of, job_of, name_of};
 use scw_machine::End;
 use scw_outside::{Sink, Store, StoreFault};
 use scw_text::NoMemory;
@@ -49,7 +54,7 @@ fn run_file<S: Store, O: Sink>(
     store: &mut S,
     out: &mut O,
 ) -> Result<Answer, NoMemory>
-    ensures comes { (words : List (List ℕ)) → job_file words ≡ Some file.now → IfOk result (λ a. Comes (record { words = words; told = S.told store.old; is_calm = S.is_calm store.old; store_before = S.fault_count store.old; store_after = S.fault_count store.new; room = O.room out.old; out_before = O.fault_count out.old; out_after = O.fault_count out.new; taken_before = O.taken out.old; taken_after = O.taken out.new }) a) }
+    ensures comes { (words : List (List ℕ)) → IsMode words Run → job_file words ≡ Some file.now → IfOk result (λ a. Comes (record { words = words; told = S.told store.old; is_calm = S.is_calm store.old; store_before = S.fault_count store.old; store_after = S.fault_count store.new; room = O.room out.old; out_before = O.fault_count out.old; out_after = O.fault_count out.new; taken_before = O.taken out.old; taken_after = O.taken out.new }) a) }
     ensures kept { OnErr result (O.taken out.new ≡ O.taken out.old) }
     ensures store { S.told store.new ≡ S.told store.old }
 {
@@ -65,18 +70,35 @@ fn run_file<S: Store, O: Sink>(
     }
 }
 
-// Does the job of a file, where the words name one.
+// Does a job.
+fn do_job<S: Store, O: Sink>(
+    alloc: Global,
+    job: Job<'_>,
+    store: &mut S,
+    out: &mut O,
+) -> Result<Answer, NoMemory>
+    ensures comes { (words : List (List ℕ)) → job_of words ≡ Some (seen_job job.entry) → IfOk result (λ a. Comes (record { words = words; told = S.told store.old; is_calm = S.is_calm store.old; store_before = S.fault_count store.old; store_after = S.fault_count store.new; room = O.room out.old; out_before = O.fault_count out.old; out_after = O.fault_count out.new; taken_before = O.taken out.old; taken_after = O.taken out.new }) a) }
+    ensures kept { OnErr result (O.taken out.new ≡ O.taken out.old) }
+    ensures store { S.told store.new ≡ S.told store.old }
+{
+    match job.mode {
+        Mode::Run => run_file(alloc, job.file, store, out),
+        Mode::Dis => show_file(alloc, job.file, store, out),
+    }
+}
+
+// Does the job, where the words are one.
 fn answer_to<S: Store, O: Sink>(
     alloc: Global,
-    file: Option<&str>,
+    job: Option<Job<'_>>,
     store: &mut S,
     out: &mut O,
 ) -> Answer
-    ensures comes { (words : List (List ℕ)) → option_map (λ s. s.now) file.entry ≡ job_file words → Comes (record { words = words; told = S.told store.old; is_calm = S.is_calm store.old; store_before = S.fault_count store.old; store_after = S.fault_count store.new; room = O.room out.old; out_before = O.fault_count out.old; out_after = O.fault_count out.new; taken_before = O.taken out.old; taken_after = O.taken out.new }) result }
+    ensures comes { (words : List (List ℕ)) → option_map seen_job job.entry ≡ job_of words → Comes (record { words = words; told = S.told store.old; is_calm = S.is_calm store.old; store_before = S.fault_count store.old; store_after = S.fault_count store.new; room = O.room out.old; out_before = O.fault_count out.old; out_after = O.fault_count out.new; taken_before = O.taken out.old; taken_after = O.taken out.new }) result }
     ensures store { S.told store.new ≡ S.told store.old }
 {
-    match file {
-        Some(file) => match run_file(alloc, file, store, out) {
+    match job {
+        Some(job) => match do_job(alloc, job, store, out) {
             Ok(answer) => answer,
             Err(NoMemory) => Answer::NoMemory,
         },
@@ -84,8 +106,8 @@ fn answer_to<S: Store, O: Sink>(
     }
 }
 
-/// Does the job of the words: `run FILE` compiles the source in the file, reads the class file back,
-/// runs it and puts what it says to `out`. A status other than 0 puts one line to `err`.
+/// Does the job of the words. `run FILE` compiles the source in the file, reads the class file back, runs it and puts what it
+/// says to `out`. `dis FILE` puts the text of the class file. A status other than 0 puts one line to `err`.
 pub fn scw_main<S: Store, O: Sink, E: Sink>(
     alloc: Global,
     words: &Vec<String>,
@@ -93,10 +115,12 @@ pub fn scw_main<S: Store, O: Sink, E: Sink>(
     out: &mut O,
     err: &mut E,
 ) -> Outcome
-    // The headline: with status 0 the file is a source that prints a sum, and what was put is the decimal text of its value, wrapped at 32 bits, and a line end.
-    ensures headline { result.status ≡ 0 → PrintsValue (map string_bytes words.now.items) (S.told store.old) (O.taken out.old) (O.taken out.new) }
-    // With status 0 it was put by the machine, on the class file that was made, in exactly so many rows.
-    ensures run { result.status ≡ 0 → Executed (map string_bytes words.now.items) (S.told store.old) result.files result.steps (O.taken out.old) (O.taken out.new) }
+    // The headline: where `run` ends with status 0, the file is a source that prints a sum, and what was put is the decimal text of its value, wrapped at 32 bits, and a line end.
+    ensures headline { IsMode (map string_bytes words.now.items) Run → result.status ≡ 0 → PrintsValue (map string_bytes words.now.items) (S.told store.old) (O.taken out.old) (O.taken out.new) }
+    // It was put by the machine, on the class file that was made, in exactly so many rows.
+    ensures run { IsMode (map string_bytes words.now.items) Run → result.status ≡ 0 → Executed (map string_bytes words.now.items) (S.told store.old) result.files result.steps (O.taken out.old) (O.taken out.new) }
+    // Where `dis` ends with status 0, the file is one class, and no other, and its text was put.
+    ensures shown { IsMode (map string_bytes words.now.items) Dis → result.status ≡ 0 → Shown (map string_bytes words.now.items) (S.told store.old) (O.taken out.old) (O.taken out.new) }
     // Status 2: the words are no job.
     ensures words { (result.status ≡ 2) ↔ IsNone (job_name (map string_bytes words.now.items)) }
     // Status 3: the store failed in this call.
@@ -105,26 +129,31 @@ pub fn scw_main<S: Store, O: Sink, E: Sink>(
     ensures has { IsTrue (S.is_calm store.old) → IfSome (job_name (map string_bytes words.now.items)) (λ name. HasName (S.told store.old) name → result.status ≢ 3) }
     // Status 4: `out` failed in this call.
     ensures write { result.status ≡ 4 → Rose (O.fault_count out.old) (O.fault_count out.new) }
-    // With status 4 it had taken a front of what the machine says up to the row whose put failed.
-    ensures cut { result.status ≡ 4 → CutOff (map string_bytes words.now.items) (S.told store.old) result.files result.steps (O.taken out.old) (O.taken out.new) }
-    // Where the file was read and judged, status 14 says exactly that it is no source.
-    ensures not_built { IsTrue (is_judged result.status) → Judged (map string_bytes words.now.items) (S.told store.old) result.status }
-    // There are files and steps with status 0 and 4 alone, and no refusal yet.
+    // With status 4 it had taken a front of what the machine says up to the row whose put failed, or of the class's text.
+    ensures cut { IsMode (map string_bytes words.now.items) Run → result.status ≡ 4 → CutOff (map string_bytes words.now.items) (S.told store.old) result.files result.steps (O.taken out.old) (O.taken out.new) }
+    ensures cut_text { IsMode (map string_bytes words.now.items) Dis → result.status ≡ 4 → ShownInPart (map string_bytes words.now.items) (S.told store.old) (O.taken out.old) (O.taken out.new) }
+    // Where a source was read and judged, status 14 says exactly that it is none.
+    ensures not_built { IsMode (map string_bytes words.now.items) Run → IsTrue (is_judged result.status) → Judged (map string_bytes words.now.items) (S.told store.old) result.status }
+    // Where a class file was read and judged, status 11 says exactly that it is none, or too long.
+    ensures bad_class { IsMode (map string_bytes words.now.items) Dis → IsTrue (is_judged_class result.status) → JudgedClass (map string_bytes words.now.items) (S.told store.old) result.status }
+    // There are files and steps where `run` ends with status 0 or 4 alone, and no refusal yet.
     ensures files { has_run result.status ≡ false → result.files ≡ [] }
     ensures steps { has_run result.status ≡ false → result.steps ≡ 0 }
+    ensures nothing_run { IsMode (map string_bytes words.now.items) Dis → (result.files ≡ []) × (result.steps ≡ 0) }
     ensures refusal { result.refusal ≡ None }
     // The status is one of those that have a name. No clause but the next speaks of `err`, so its failure changes nothing else.
     ensures known { IsStatus result.status }
     // The line for the status, where `err` doesn't fail.
-    ensures said { (Rose (E.fault_count err.old) (E.fault_count err.new) → ⊥) → SaysLine (map string_bytes words.now.items) result.status (E.taken err.old) (E.taken err.new) }
-    // The store's files are as before, and so is `out` where nothing was run.
+    ensures said { (Rose (E.fault_count err.old) (E.fault_count err.new) → ⊥) → SaysLine (map string_bytes words.now.items) (S.told store.old) result.status (E.taken err.old) (E.taken err.new) }
+    // The store's files are as before, and so is `out` where nothing was run or shown.
     ensures store { S.told store.new ≡ S.told store.old }
     ensures out { has_run result.status ≡ false → O.taken out.new ≡ O.taken out.old }
-    // A source in a calm store, with room for its line, is run, unless memory runs out.
+    // A source in a calm store, with room for its line, is run, and a class file, with room for its text, is shown, unless memory runs out.
     ensures complete { (e : Sum) → IsReady (map string_bytes words.now.items) (S.told store.old) (S.is_calm store.old) (O.room out.old) e → (result.status ≡ 0) ⊎ (result.status ≡ 12) }
+    ensures complete_text { (c : ClassFile) → IsReadyClass (map string_bytes words.now.items) (S.told store.old) (S.is_calm store.old) (O.room out.old) c → (result.status ≡ 0) ⊎ (result.status ≡ 12) }
 {
-    let file = file_of(words.as_slice());
-    let answer = answer_to(alloc, file, store, out);
-    let _ = report(err, file, answer.status());
+    let job = job_of(words.as_slice());
+    let answer = answer_to(alloc, job, store, out);
+    let _ = report(err, file_of(job), answer.status());
     answer.into_outcome(alloc)
 }

@@ -1,0 +1,6 @@
+pub mod Character
+pub mod Entry
+pub mod Mnemonic
+pub mod Instruction
+pub mod Code
+pub mod Class
