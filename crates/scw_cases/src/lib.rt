@@ -13,6 +13,8 @@ mod class_files;
 #[cfg(test)]
 mod faults;
 #[cfg(test)]
+mod generated;
+#[cfg(test)]
 mod instructions;
 #[cfg(test)]
 mod jumps;

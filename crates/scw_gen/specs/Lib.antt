@@ -1,0 +1,17 @@
+pub mod Outcome
+pub mod Kind
+pub mod Instr
+pub mod Mode
+pub mod Pool
+pub mod Scope
+pub mod Around
+pub mod Operator
+pub mod Code
+pub mod Room
+pub mod Name
+pub mod Encode
+pub mod Named
+pub mod Method
+pub mod Excess
+pub mod Fault
+pub mod Generate

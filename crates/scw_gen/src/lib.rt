@@ -1,0 +1,33 @@
+//! The class file of a class of a core program.
+//!
+//! A class or tree of a form that has no code yet is refused as not built. It opens no file and runs nothing.
+#![tactic(auto)]
+
+mod around;
+mod class_file;
+mod emit;
+mod encode;
+mod excess;
+mod failure;
+mod fault;
+mod instr;
+mod kind;
+mod method;
+mod mode;
+mod name;
+mod named;
+mod opcode;
+mod operator;
+mod pool;
+mod room;
+mod scope;
+#[cfg(test)]
+mod test_program;
+#[cfg(test)]
+mod tests;
+
+pub use class_file::generate;
+pub use excess::{Excess, MAX_ARGUMENTS, MAX_POOL, MAX_SHORT};
+pub use fault::{GenFault, Large, LargeKind};
+pub use instr::{BuiltIn, Compared, Constant, Instr};
+pub use kind::{Kind, Word};

@@ -1,0 +1,314 @@
+//! Code that was worked out by hand.
+
+use crate::test_program::{
+    BOOLEAN_TYPE, INT_TYPE, LONG_TYPE, STRINGS_TYPE, UNIT_TYPE, binary, block, boolean, called,
+    chosen, compared, computed, int, leaf, local, method, object, printed, program, repeated, set,
+    unit,
+};
+use crate::{GenFault, LargeKind, generate};
+use scw_classfile::{AttrBody, ClassFile, MemberInfo};
+use scw_core::{Body, Literal, Local, Member, Op, Parameter, Tree, Width};
+use scw_text::{SymId, TypeId};
+use scw_value::{Arithmetic, Comparison};
+use sqlite_items::Items;
+use std::alloc::{AllocError, Global};
+use std::test::Fail;
+
+/// The method that is tried, its parameter, and a local of its body.
+const F: SymId = SymId(50);
+
+const N: SymId = SymId(51);
+
+const X: SymId = SymId(52);
+
+// Codes by their opcodes, each with its first operand or 0.
+
+/// iload_1; iconst_2; if_icmpge; iconst_1; ireturn, then aload_0; iload_1; iconst_1; isub; invokevirtual, and the same with
+/// iconst_2, iadd; ireturn
+#[rattlefmt::skip]
+const FIBONACCI: [(u8, i32); 17] = [
+    (27, 0), (5, 0), (162, 5), (4, 0), (172, 0), (42, 0), (27, 0), (4, 0), (100, 0), (182, 16),
+    (42, 0), (27, 0), (5, 0), (100, 0), (182, 16), (96, 0), (172, 0),
+];
+
+/// iconst_0; iload_1; if_icmpge; iload_1; bipush 9; if_icmpge; iload_1; sipush 1000; iadd; istore_1; goto; return
+#[rattlefmt::skip]
+const LOOP: [(u8, i32); 12] = [
+    (3, 0), (27, 0), (162, 18), (27, 0), (16, 9), (162, 12), (27, 0), (17, 1000), (96, 0),
+    (60, 0), (167, -17), (177, 0),
+];
+
+/// lconst_0; lstore_2, then iload_1; iconst_0; if_icmplt; iload_1; iconst_1; iadd; istore_1, and iload_1; iconst_5; if_icmpge;
+/// iload_1; iconst_1; iadd; istore_1; return
+#[rattlefmt::skip]
+const COUNTED: [(u8, i32); 17] = [
+    (9, 0), (65, 0), (27, 0), (3, 0), (161, 7), (27, 0), (4, 0), (96, 0), (60, 0), (27, 0),
+    (8, 0), (162, 7), (27, 0), (4, 0), (96, 0), (60, 0), (177, 0),
+];
+
+/// lload_1; ldc2_w; lcmp; ifgt; iconst_1; goto; iconst_0; ireturn
+#[rattlefmt::skip]
+const COMPARED: [(u8, i32); 8] = [
+    (31, 0), (20, 15), (148, 0), (157, 7), (4, 0), (167, 4), (3, 0), (172, 0),
+];
+
+/// ldc; bipush 7; invokestatic box; invokevirtual toString; invokestatic concat; ldc; invokestatic concat; invokestatic print;
+/// return
+#[rattlefmt::skip]
+const PRINTED: [(u8, i32); 9] = [
+    (18, 16), (16, 7), (184, 22), (182, 26), (184, 30), (18, 32), (184, 30), (184, 36),
+    (177, 0),
+];
+
+fn parameter(t: TypeId) -> Local {
+    Local {
+        symbol: N,
+        type_id: t,
+    }
+}
+
+/// `def f(n: T): U`
+fn f(alloc: Global, t: TypeId, u: TypeId) -> Result<Member, AllocError> {
+    method(alloc, F, "f", parameter(t), u)
+}
+
+fn members(alloc: Global, m: Member) -> Result<Items<Member>, AllocError> {
+    let mut members = Items::new(alloc);
+    members.push(m)?;
+    Ok(members)
+}
+
+/// The class file of the object with this method alone.
+fn file(alloc: Global, m: Member, tree: Tree) -> Result<ClassFile, GenFault> {
+    let mut bodies = Items::new(alloc);
+    bodies.push(Body {
+        member: m.symbol,
+        tree,
+    })?;
+    let class = object(alloc, members(alloc, m)?)?;
+    generate(alloc, &program(alloc, bodies)?, &class)
+}
+
+/// An opcode and its first operand, or 0.
+fn instrs_of(alloc: Global, m: &MemberInfo) -> Result<Vec<(u8, i32)>, AllocError> {
+    let mut instrs = Vec::new(alloc);
+    for attribute in m.attributes.as_slice() {
+        if let AttrBody::Code(code) = &attribute.body {
+            for instr in code.code.as_slice() {
+                instrs.push((instr.op, first_of(&instr.args)))?;
+            }
+        }
+    }
+    Ok(instrs)
+}
+
+fn first_of(args: &scw_code::InstrArgs) -> i32 {
+    match args {
+        scw_code::InstrArgs::Plain(numbers) => numbers.first(),
+        scw_code::InstrArgs::Wide { op: _, args } => args.first(),
+        scw_code::InstrArgs::Table(_) | scw_code::InstrArgs::Lookup(_) => 0,
+    }
+}
+
+/// The stack and the locals of a method.
+fn room_of(m: &MemberInfo) -> (u16, u16) {
+    for attribute in m.attributes.as_slice() {
+        if let AttrBody::Code(code) = &attribute.body {
+            return (code.stack, code.locals);
+        }
+    }
+    (0, 0)
+}
+
+/// The code of the one method of a file, which stands behind the constructor and the method that gives the object.
+fn code_of(alloc: Global, file: &ClassFile) -> Result<Vec<(u8, i32)>, AllocError> {
+    match file.methods.as_slice() {
+        [_constructor, _getter, m] => instrs_of(alloc, m),
+        _ => Ok(Vec::new(alloc)),
+    }
+}
+
+fn room_of_file(file: &ClassFile) -> (u16, u16) {
+    match file.methods.as_slice() {
+        [_constructor, _getter, m] => room_of(m),
+        _ => (0, 0),
+    }
+}
+
+fn n(alloc: Global) -> Tree {
+    local(alloc, INT_TYPE, N)
+}
+
+/// `f(n - k)`
+fn f_less(alloc: Global, k: u32) -> Result<Tree, AllocError> {
+    let less = computed(alloc, Arithmetic::Subtract, n(alloc), int(alloc, k))?;
+    called(alloc, INT_TYPE, F, less)
+}
+
+/// `n = n + k`
+fn add_to_n(alloc: Global, k: u32) -> Result<Tree, AllocError> {
+    let sum = computed(alloc, Arithmetic::Add, n(alloc), int(alloc, k))?;
+    set(alloc, N, sum)
+}
+
+/// `n < k`
+fn n_below(alloc: Global, k: u32) -> Result<Tree, AllocError> {
+    compared(alloc, Width::Int, Comparison::Less, n(alloc), int(alloc, k))
+}
+
+/// `k < n && n < l`, as it is lowered.
+fn n_between(alloc: Global, k: u32, l: u32) -> Result<Tree, AllocError> {
+    let above = compared(alloc, Width::Int, Comparison::Less, int(alloc, k), n(alloc))?;
+    chosen(
+        alloc,
+        BOOLEAN_TYPE,
+        above,
+        n_below(alloc, l)?,
+        boolean(alloc, false),
+    )
+}
+
+#[test]
+fn the_branches_of_a_result_return_each(rt: HostRuntime) -> Result<(), Fail> {
+    let alloc = rt.alloc();
+    let sum = computed(alloc, Arithmetic::Add, f_less(alloc, 1)?, f_less(alloc, 2)?)?;
+    let tree = chosen(alloc, INT_TYPE, n_below(alloc, 2)?, int(alloc, 1), sum)?;
+    let class = file(alloc, f(alloc, INT_TYPE, INT_TYPE)?, tree)?;
+    assert_eq!(rt;
+        code_of(alloc, &class)?.as_slice(),
+        FIBONACCI.as_slice(),
+        "if (n < 2) 1 else f(n - 1) + f(n - 2)"
+    );
+    assert_eq!(rt;
+        room_of_file(&class),
+        (4, 2),
+        "the first result, this, n and 2"
+    );
+    Ok(())
+}
+
+#[test]
+fn a_test_of_two_jumps_from_each(rt: HostRuntime) -> Result<(), Fail> {
+    let alloc = rt.alloc();
+    let tree = repeated(alloc, n_between(alloc, 0, 9)?, add_to_n(alloc, 1000)?)?;
+    let class = file(alloc, f(alloc, INT_TYPE, UNIT_TYPE)?, tree)?;
+    assert_eq!(rt;
+        code_of(alloc, &class)?.as_slice(),
+        LOOP.as_slice(),
+        "while (0 < n && n < 9) n = n + 1000"
+    );
+    assert_eq!(rt; room_of_file(&class), (2, 2), "two numbers; this and n");
+    Ok(())
+}
+
+/// `if (n < k) n = n + 1`, or with the branches the other way round.
+fn n_counted(alloc: Global, k: u32, is_below: bool) -> Result<Tree, AllocError> {
+    let test = n_below(alloc, k)?;
+    if is_below {
+        return chosen(alloc, UNIT_TYPE, test, add_to_n(alloc, 1)?, unit(alloc));
+    }
+    chosen(alloc, UNIT_TYPE, test, unit(alloc), add_to_n(alloc, 1)?)
+}
+
+#[test]
+fn a_branch_that_does_nothing_has_no_code(rt: HostRuntime) -> Result<(), Fail> {
+    let alloc = rt.alloc();
+    let first = n_counted(alloc, 0, false)?;
+    let tree = block(
+        alloc,
+        UNIT_TYPE,
+        X,
+        LONG_TYPE,
+        first,
+        n_counted(alloc, 5, true)?,
+    )?;
+    let class = file(alloc, f(alloc, INT_TYPE, UNIT_TYPE)?, tree)?;
+    assert_eq!(rt;
+        code_of(alloc, &class)?.as_slice(),
+        COUNTED.as_slice(),
+        "one branch of each does nothing"
+    );
+    assert_eq!(rt; room_of_file(&class), (2, 4), "two numbers; this, n and x");
+    Ok(())
+}
+
+#[test]
+fn a_comparison_of_longs_is_a_value(rt: HostRuntime) -> Result<(), Fail> {
+    let alloc = rt.alloc();
+    let big = leaf(alloc, LONG_TYPE, Op::Literal(Literal::Long(1 << 40)));
+    let tree = compared(
+        alloc,
+        Width::Long,
+        Comparison::LessOrEqual,
+        local(alloc, LONG_TYPE, N),
+        big,
+    )?;
+    let class = file(alloc, f(alloc, LONG_TYPE, BOOLEAN_TYPE)?, tree)?;
+    assert_eq!(rt;
+        code_of(alloc, &class)?.as_slice(),
+        COMPARED.as_slice(),
+        "n <= 1099511627776L"
+    );
+    assert_eq!(rt; room_of_file(&class), (4, 3), "two numbers of two words");
+    Ok(())
+}
+
+#[test]
+fn println_joins_the_texts(rt: HostRuntime) -> Result<(), Fail> {
+    let alloc = rt.alloc();
+    let tree = printed(alloc, int(alloc, 7))?;
+    let main = method(alloc, F, "main", parameter(STRINGS_TYPE), UNIT_TYPE)?;
+    let class = file(alloc, main, tree)?;
+    assert_eq!(rt;
+        code_of(alloc, &class)?.as_slice(),
+        PRINTED.as_slice(),
+        "println(7)"
+    );
+    assert_eq!(rt; class.pool.len(), 36, "an entry stands in the pool once");
+    assert_eq!(rt; room_of_file(&class), (2, 2), "two texts");
+    Ok(())
+}
+
+#[test]
+fn a_form_without_code_is_not_built(rt: HostRuntime) -> Result<(), Fail> {
+    let alloc = rt.alloc();
+    let cell = binary(alloc, INT_TYPE, Op::CellSet, int(alloc, 1), int(alloc, 2))?;
+    match file(alloc, f(alloc, INT_TYPE, INT_TYPE)?, cell) {
+        Err(GenFault::NotBuilt) => {}
+        Ok(_) | Err(GenFault::TooLarge(_)) | Err(GenFault::NoMemory) => {
+            assert!(rt; false, "a cell has no code");
+        }
+    }
+    Ok(())
+}
+
+/// `def f(n: Long, ..): Int` with so many parameters.
+fn f_of_longs(alloc: Global, count: u32) -> Result<Member, AllocError> {
+    let mut m = f(alloc, LONG_TYPE, INT_TYPE)?;
+    for _turn in 1..count {
+        m.parameters.push(Parameter {
+            symbol: N,
+            type_id: LONG_TYPE,
+            is_by_name: false,
+        })?;
+    }
+    Ok(m)
+}
+
+#[test]
+fn parameters_take_at_most_255_slots(rt: HostRuntime) -> Result<(), Fail> {
+    let alloc = rt.alloc();
+    let most = file(alloc, f_of_longs(alloc, 127)?, int(alloc, 1))?;
+    assert_eq!(rt; room_of_file(&most), (1, 255), "this, and 127 numbers of two slots");
+    match file(alloc, f_of_longs(alloc, 128)?, int(alloc, 1)) {
+        Err(GenFault::TooLarge(large)) => {
+            assert_eq!(rt; large.kind, LargeKind::Slots, "what there is too much of");
+            assert_eq!(rt; large.number, 257, "this, and 128 numbers of two slots");
+            assert_eq!(rt; large.class.len(), 5, "of the class Main$");
+        }
+        Ok(_) | Err(GenFault::NotBuilt) | Err(GenFault::NoMemory) => {
+            assert!(rt; false, "a parameter more doesn't fit");
+        }
+    }
+    Ok(())
+}
