@@ -299,7 +299,11 @@ fn f_of_longs(alloc: Global, count: u32) -> Result<Member, AllocError> {
 fn parameters_take_at_most_255_slots(rt: HostRuntime) -> Result<(), Fail> {
     let alloc = rt.alloc();
     let most = file(alloc, f_of_longs(alloc, 127)?, int(alloc, 1))?;
-    assert_eq!(rt; room_of_file(&most), (1, 255), "this, and 127 numbers of two slots");
+    assert_eq!(rt;
+        room_of_file(&most),
+        (1, 255),
+        "this, and 127 numbers of two slots"
+    );
     match file(alloc, f_of_longs(alloc, 128)?, int(alloc, 1)) {
         Err(GenFault::TooLarge(large)) => {
             assert_eq!(rt; large.kind, LargeKind::Slots, "what there is too much of");
