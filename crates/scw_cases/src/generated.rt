@@ -1,9 +1,11 @@
 //! Sources of the small language, as far as their class files: read, typed, generated, and shown as text.
 
+use scw_core::Program;
 use scw_dis::dis;
-use scw_gen::generate;
-use scw_small::read_program;
-use std::alloc::Global;
+use scw_gen::{GenFault, LargeKind, generate};
+use scw_reader::{Atom, Expression, Product, Source, Statement};
+use scw_small::{read_program, typed_program};
+use std::alloc::{AllocError, Global};
 use std::test::Fail;
 
 /// The first numbers of Fibonacci, each in a line behind an `f`.
@@ -89,5 +91,57 @@ fn text_of(alloc: Global, source: &str) -> Result<String, Fail> {
 fn a_source_becomes_a_class_file(rt: HostRuntime) -> Result<(), Fail> {
     let text = text_of(rt.alloc(), NUMBERS)?;
     assert_eq!(rt; text.as_str(), NUMBERS_TEXT);
+    Ok(())
+}
+
+/// An atom as an expression.
+fn alone(alloc: Global, atom: Atom) -> Expression {
+    let product = Product {
+        first: atom,
+        more: Vec::new(alloc),
+    };
+    Expression::Sum(product, Vec::new(alloc))
+}
+
+/// `println(1)`
+fn print_one(alloc: Global) -> Result<Expression, AllocError> {
+    let one = alone(alloc, Atom::Int(1));
+    Ok(alone(alloc, Atom::Print(Box::new(alloc, one)?)))
+}
+
+/// An object whose `main` is so many times `println(1)`.
+fn prints(alloc: Global, count: u32) -> Result<Source, AllocError> {
+    let mut statements = Vec::new(alloc);
+    for _turn in 1..count {
+        statements.push(Statement::Plain(print_one(alloc)?))?;
+    }
+    let last = Box::new(alloc, print_one(alloc)?)?;
+    Ok(Source {
+        before: Vec::new(alloc),
+        main: Expression::Block(statements, last),
+        after: Vec::new(alloc),
+    })
+}
+
+/// What there is too much of in the class of the program, and how much.
+fn excess_of(alloc: Global, program: &Program) -> Option<(LargeKind, u64)> {
+    let class = program.classes().get(0)?;
+    match generate(alloc, program, class) {
+        Err(e) => match e {
+            GenFault::TooLarge(large) => Some((large.kind, large.number)),
+            GenFault::NotBuilt | GenFault::NoMemory => None,
+        },
+        Ok(_file) => None,
+    }
+}
+
+/// A statement has 20 bytes: two `ldc` of 2 bytes, `iconst_1`, and five calls of 3 bytes. Behind them stands `return`.
+#[test]
+fn a_method_of_many_statements_is_too_large(rt: HostRuntime) -> Result<(), Fail> {
+    let alloc = rt.alloc();
+    let small = typed_program(alloc, &prints(alloc, 3_276)?)?.ok_or("it is no source")?;
+    assert_eq!(rt; excess_of(alloc, &small), None, "65,521 bytes");
+    let large = typed_program(alloc, &prints(alloc, 3_277)?)?.ok_or("it is no source")?;
+    assert_eq!(rt; excess_of(alloc, &large), Some((LargeKind::Code, 65_541)));
     Ok(())
 }
