@@ -1,8 +1,11 @@
-//! Sources of the small language, as far as their class files: read, typed, generated, and shown as text.
+//! Sources of the small language: read, typed, made a class file, which is shown as text, and run.
 
+use crate::program::{Limits, run_class};
+use scw_back::class_file;
 use scw_core::Program;
 use scw_dis::dis;
-use scw_gen::{GenFault, LargeKind, generate};
+use scw_gen::{GenFault, LargeKind};
+use scw_machine::End;
 use scw_reader::{Atom, Expression, Product, Source, Statement};
 use scw_small::{read_program, typed_program};
 use std::alloc::{AllocError, Global};
@@ -52,38 +55,34 @@ method 0001 main ([Ljava/lang/String;)V
   stack 4 locals 3
   0: iconst_0
   1: istore_2
-  2: iconst_0
-  3: istore_2
-  4: iload_2
-  5: iconst_5
-  6: if_icmpge 45
-  9: ldc 
-  11: ldc f
-  13: aload_0
-  14: iload_2
-  15: invokevirtual Main$ f (I)I
-  18: invokestatic scalaw/rt/Run box (I)Ljava/lang/Integer;
-  21: invokevirtual java/lang/Object toString ()Ljava/lang/String;
-  24: invokestatic scalaw/rt/Run concat (Ljava/lang/String;Ljava/lang/String;)Ljava/lang/String;
-  27: invokestatic scalaw/rt/Run concat (Ljava/lang/String;Ljava/lang/String;)Ljava/lang/String;
-  30: ldc 
+  2: iload_2
+  3: iconst_5
+  4: if_icmpge 43
+  7: ldc 
+  9: ldc f
+  11: aload_0
+  12: iload_2
+  13: invokevirtual Main$ f (I)I
+  16: invokestatic scalaw/rt/Run box (I)Ljava/lang/Integer;
+  19: invokevirtual java/lang/Object toString ()Ljava/lang/String;
+  22: invokestatic scalaw/rt/Run concat (Ljava/lang/String;Ljava/lang/String;)Ljava/lang/String;
+  25: invokestatic scalaw/rt/Run concat (Ljava/lang/String;Ljava/lang/String;)Ljava/lang/String;
+  28: ldc 
 
-  32: invokestatic scalaw/rt/Run concat (Ljava/lang/String;Ljava/lang/String;)Ljava/lang/String;
-  35: invokestatic scalaw/rt/Run print (Ljava/lang/String;)V
-  38: iload_2
-  39: iconst_1
-  40: iadd
-  41: istore_2
-  42: goto 4
-  45: return
+  30: invokestatic scalaw/rt/Run concat (Ljava/lang/String;Ljava/lang/String;)Ljava/lang/String;
+  33: invokestatic scalaw/rt/Run print (Ljava/lang/String;)V
+  36: iload_2
+  37: iconst_1
+  38: iadd
+  39: istore_2
+  40: goto 2
+  43: return
 ";
 
 /// The class file of the object, as text.
 fn text_of(alloc: Global, source: &str) -> Result<String, Fail> {
     let program = read_program(alloc, source.as_bytes())?.ok_or("it is no source")?;
-    let class = program.classes().get(0).ok_or("it has no class")?;
-    let file = generate(alloc, &program, class)?;
-    let text = dis(alloc, &file)?;
+    let text = dis(alloc, &class_file(alloc, &program)?)?;
     Ok(text.as_slice().iter().copied().collect(alloc)?)
 }
 
@@ -91,6 +90,27 @@ fn text_of(alloc: Global, source: &str) -> Result<String, Fail> {
 fn a_source_becomes_a_class_file(rt: HostRuntime) -> Result<(), Fail> {
     let text = text_of(rt.alloc(), NUMBERS)?;
     assert_eq!(rt; text.as_str(), NUMBERS_TEXT);
+    Ok(())
+}
+
+/// A heap of 10,000 units, and more rows than the sources need.
+const LIMITS: Limits = Limits {
+    heap: 10_000,
+    steps: 10_000,
+};
+
+/// Runs the object of the source, and says how the run ended and what was put.
+fn ending_of(alloc: Global, source: &str) -> Result<(End, Vec<u8>), Fail> {
+    let program = read_program(alloc, source.as_bytes())?.ok_or("it is no source")?;
+    let ran = run_class(alloc, &class_file(alloc, &program)?, LIMITS)?;
+    Ok((ran.end, ran.taken))
+}
+
+#[test]
+fn a_source_runs(rt: HostRuntime) -> Result<(), Fail> {
+    let (end, taken) = ending_of(rt.alloc(), NUMBERS)?;
+    assert_eq!(rt; end, End::Ended);
+    assert_eq!(rt; taken.as_slice(), b"f1\nf1\nf2\nf3\nf5\n");
     Ok(())
 }
 
@@ -125,8 +145,7 @@ fn prints(alloc: Global, count: u32) -> Result<Source, AllocError> {
 
 /// What there is too much of in the class of the program, and how much.
 fn excess_of(alloc: Global, program: &Program) -> Option<(LargeKind, u64)> {
-    let class = program.classes().get(0)?;
-    match generate(alloc, program, class) {
+    match class_file(alloc, program) {
         Err(e) => match e {
             GenFault::TooLarge(large) => Some((large.kind, large.number)),
             GenFault::NotBuilt | GenFault::NoMemory => None,

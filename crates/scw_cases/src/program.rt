@@ -2,11 +2,12 @@
 //!
 //! Their bytes are read, and written again: the machine gets those that `write_class` gave.
 
-ghost use Rattle.std.specs.Prelude.{◌≡◌, IfOk, length};
+ghost use Rattle.std.specs.Prelude.{◌≡◌, ◌≤◌, IfOk, length};
+ghost use Rattle.scw_classfile.specs.ReadClass.{IsWritable};
 
 use crate::call::text;
 use crate::class_bytes::{main_class, shape_class};
-use scw_classfile::{FileOut, Files, read_class, write_class};
+use scw_classfile::{ClassFile, FileOut, Files, read_class, write_class};
 use scw_machine::{End, LoadFault, load};
 use scw_outside::MemSink;
 use scw_text::Text;
@@ -83,13 +84,19 @@ pub struct Ran {
     pub told: Vec<u8>,
 }
 
-/// The file of a class that is read and written again.
-fn file(alloc: Global, bytes: &[u8]) -> Result<FileOut, Fail> {
-    let class = read_class(alloc, bytes)?;
+/// The file of a class.
+fn written(alloc: Global, class: &ClassFile) -> Result<FileOut, Fail>
+    requires { IsWritable class.now }
+{
     Ok(FileOut {
         name: Items::new(alloc),
-        bytes: write_class(alloc, &class)?,
+        bytes: write_class(alloc, class)?,
     })
+}
+
+/// The file of a class that is read and written again.
+fn file(alloc: Global, bytes: &[u8]) -> Result<FileOut, Fail> {
+    written(alloc, &read_class(alloc, bytes)?)
 }
 
 fn files(alloc: Global, case: &Case<'_>) -> Result<Files, Fail>
@@ -111,7 +118,7 @@ fn run_files(
     out: &mut MemSink,
     err: &mut MemSink,
 ) -> Result<(End, u64), LoadFault>
-    requires { length files.now ≡ 2 }
+    requires { length files.now ≤ 2 }
 {
     let mut machine = load(alloc, files, main, limits.heap, FRAMES, FRAME_WORDS)?;
     let end = machine.run(out, limits.steps);
@@ -121,19 +128,34 @@ fn run_files(
     Ok((end, machine.done()))
 }
 
-/// Runs the case.
-pub fn run(alloc: Global, case: &Case<'_>, limits: Limits) -> Result<Ran, Fail> {
-    let files = files(alloc, case)?;
+/// Runs the files.
+fn ran(alloc: Global, files: &Files, limits: Limits) -> Result<Ran, Fail>
+    requires { length files.now ≤ 2 }
+{
     let main = text(alloc, "Main")?;
     let mut out = MemSink::new(alloc, AMPLE, Items::new(alloc))?;
     let mut err = MemSink::new(alloc, AMPLE, Items::new(alloc))?;
-    let (end, done) = run_files(alloc, &files, &main, limits, &mut out, &mut err)?;
+    let (end, done) = run_files(alloc, files, &main, limits, &mut out, &mut err)?;
     Ok(Ran {
         end,
         done,
         taken: out.taken().to_vec(alloc)?,
         told: err.taken().to_vec(alloc)?,
     })
+}
+
+/// Runs the case.
+pub fn run(alloc: Global, case: &Case<'_>, limits: Limits) -> Result<Ran, Fail> {
+    ran(alloc, &files(alloc, case)?, limits)
+}
+
+/// Runs the class `Main$`.
+pub fn run_class(alloc: Global, class: &ClassFile, limits: Limits) -> Result<Ran, Fail>
+    requires { IsWritable class.now }
+{
+    let mut files = Items::new(alloc);
+    files.push(written(alloc, class)?)?;
+    ran(alloc, &files, limits)
 }
 
 /// Whether the case ends, and puts just this.

@@ -33,6 +33,7 @@ pub use class_file::{
     MemberInfo, MemberInfos, Pool,
 };
 pub use class_rule::ClassRule;
+pub use descriptor::is_method;
 pub use fault::{ClassFault, ClassRefusal};
 pub use laws::bytes_tell_the_class;
 pub use pool_entry::PoolEntry;

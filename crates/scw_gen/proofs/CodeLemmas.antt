@@ -1,5 +1,5 @@
 -- Codes one behind the other.
-use Rattle.std.proofs.Common.{◌≡◌, ◌∙◌, ap, refl, sym, ℕ, zero, suc, ◌+◌, List, [], ◌∷◌, ◌++◌, Option, Some, None, length, take, get_or, append_assoc, append-nil, arith}
+use Rattle.std.proofs.Common.{◌≡◌, ◌∙◌, ap, refl, sym, ℕ, zero, suc, ◌+◌, List, [], ◌∷◌, Option, Some, None, length, take, get_or, append_assoc, append-nil, arith}
 use Rattle.scw_core.specs.TreeOf.{tree_of, trees_view}
 use Rattle.scw_core.specs.declared.tree.Tree.{Tree}
 use Rattle.scw_gen.specs.Around.{Around}

@@ -1,5 +1,5 @@
 -- How deep the stack gets by statements.
-use Rattle.std.proofs.Common.{◌≡◌, ◌∙◌, ap, refl, sym, ℕ, zero, suc, ◌+◌, max, List, [], ◌∷◌, length, take, get_or, arith}
+use Rattle.std.proofs.Common.{◌≡◌, ◌∙◌, ap, ℕ, zero, suc, ◌+◌, max, List, [], ◌∷◌, length, take, get_or, arith}
 use Rattle.scw_core.specs.TreeOf.{tree_of, trees_view}
 use Rattle.scw_core.specs.declared.tree.Tree.{Tree}
 use Rattle.scw_gen.specs.Around.{Around}

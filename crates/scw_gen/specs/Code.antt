@@ -3,7 +3,6 @@
 use Rattle.std.specs.Prelude.{ℕ, List, [], ◌∷◌, ◌++◌, Bool, true, false, Option, Some, None}
 use Rattle.scw_text.specs.declared.number.TypeId.{TypeId}
 use Rattle.scw_core.specs.Tree.{Tree, Trees, info_of, strict, block, and_also, or_else, if_else, while_do, function, thunk, match_on, try_in, label, switch, none, more}
-use Rattle.scw_core.specs.declared.operator.Literal.{Literal}
 use Rattle.scw_core.specs.declared.operator.Literal.TheVariants as literal
 use Rattle.scw_core.specs.declared.operator.Op.{Op}
 use Rattle.scw_core.specs.declared.operator.Op.TheVariants as op
@@ -13,7 +12,7 @@ use Rattle.scw_gen.specs.Around.{Around, kind_in}
 use Rattle.scw_gen.specs.Instr.{plus, room_of}
 use Rattle.scw_gen.specs.Mode.{Tail, alone, both, branches, decided, jump_back, jump_size, mode_of_test, unit}
 use Rattle.scw_gen.specs.Operator.{form_of, op_code, text_of}
-use Rattle.scw_gen.specs.Scope.{Scope, cleared, from, inside, placed}
+use Rattle.scw_gen.specs.Scope.{Scope, from, inside, placed}
 use Rattle.scw_gen.specs.declared.instr.Instr.{Instr}
 use Rattle.scw_gen.specs.declared.mode.Mode.{Mode}
 use Rattle.scw_gen.specs.declared.mode.Mode.TheVariants.{Value, Effect, Test, Return}
@@ -85,9 +84,10 @@ abbrev pub block_end : Bool → Mode → Trees → List Instr
 block_end far m none = unit far m
 block_end far m (more t ts) = []
 
--- a block, by the code of its statements in its scope and what stands behind them
+-- A block, by the code of its statements in its scope and what stands behind them. Its locals have no value until they are
+-- set: none is read before that, by its kind (`Typed`).
 abbrev pub block_code : Around → Scope → Mode → List Local → (Scope → Option (List Instr)) → List Instr → Option (List Instr)
-block_code g s m xs made end = placed g.table g.class.symbol (from s.next) xs >>= λ inner. joined (Some (cleared inner.slots)) (joined (made (inside inner s)) (Some end))
+block_code g s m xs made end = placed g.table g.class.symbol (from s.next) xs >>= λ inner. joined (made (inside inner s)) (Some end)
 
 -- ---- trees
 

@@ -1,5 +1,5 @@
 -- Instructions with their opcodes and operands: JVMS 6.5, the parts "Format" and "Forms" of each.
-use Rattle.std.specs.Prelude.{ℕ, ◌+◌, ◌-◌, ℤ, pos, negsuc, neg_ℤ, unsigned_abs, nat_le, Bool, cond, List}
+use Rattle.std.specs.Prelude.{ℕ, ◌+◌, ◌-◌, ℤ, pos, negsuc, neg_ℤ, unsigned_abs, nat_le, cond}
 use Rattle.scw_code.specs.declared.instr.Instr as any
 use Rattle.scw_code.specs.declared.instr.InstrArgs.TheVariants as args
 use Rattle.scw_code.specs.declared.instr.Numbers.{Numbers}
@@ -21,7 +21,7 @@ use Rattle.scw_gen.specs.declared.instr.Instr.{Instr}
 use Rattle.scw_gen.specs.declared.instr.Instr.TheVariants as instr
 use Rattle.scw_gen.specs.declared.kind.Word.{Word}
 use Rattle.scw_gen.specs.declared.kind.Word.TheVariants as word
-use Rattle.scw_gen.specs.declared.opcode.TheConstants.{ACONST_NULL, ALOAD, ALOAD_0, ARETURN, ASTORE, ASTORE_0, BIPUSH, DUP, GOTO, GOTO_W, IADD, IAND, ICONST_0, IDIV, IF_ICMPEQ, IFEQ, ILOAD, ILOAD_0, IMUL, INVOKESPECIAL, INVOKESTATIC, INVOKEVIRTUAL, IOR, IREM, IRETURN, ISTORE, ISTORE_0, ISUB, IXOR, LCMP, LCONST_0, LDC, LDC2_W, LDC_W, LLOAD, LLOAD_0, LRETURN, LSTORE, LSTORE_0, NEW, POP, POP2, RETURN, SIPUSH, WIDE}
+use Rattle.scw_gen.specs.declared.opcode.TheConstants.{ALOAD, ALOAD_0, ARETURN, ASTORE, ASTORE_0, BIPUSH, DUP, GOTO, GOTO_W, IADD, IAND, ICONST_0, IDIV, IF_ICMPEQ, IFEQ, ILOAD, ILOAD_0, IMUL, INVOKESPECIAL, INVOKESTATIC, INVOKEVIRTUAL, IOR, IREM, IRETURN, ISTORE, ISTORE_0, ISUB, IXOR, LCMP, LCONST_0, LDC, LDC2_W, LDC_W, LLOAD, LLOAD_0, LRETURN, LSTORE, LSTORE_0, NEW, POP, POP2, RETURN, SIPUSH, WIDE}
 
 abbrev pub plain : ℕ → Numbers → any.Instr
 plain op numbers = record { op = op; args = args.Plain numbers }
@@ -116,7 +116,6 @@ encoded (instr.Constant c) index = with_index LDC index
 encoded (instr.WideConstant c) index = with_index LDC_W index
 encoded (instr.LongBit b) index = bare (cond b (LCONST_0 + 1) LCONST_0)
 encoded (instr.LongConstant n) index = with_index LDC2_W index
-encoded instr.Null index = bare ACONST_NULL
 encoded (instr.Load w n) index = load w n
 encoded (instr.Store w n) index = store w n
 encoded (instr.Arithmetic w o) index = bare (arithmetic w o)

@@ -1,6 +1,9 @@
 -- The class file of a class: JVMS 4.1. `None` is a class, or a tree of it, of a form that has no code yet.
-use Rattle.std.specs.Prelude.{ℕ, ◌-◌, ◌^◌, min, List, [], ◌∷◌, ◌++◌, Bool, true, false, cond, ◌&&◌, map, ◌≡◌, Option, Some, None, Result, Ok, Err, codes}
+use Rattle.std.specs.Prelude.{ℕ, ◌-◌, ◌^◌, min, nat_eq, List, [], ◌∷◌, ◌++◌, Bool, true, false, not, cond, ◌&&◌, ◌||◌, map, ◌≡◌, Option, Some, None, Result, Ok, Err, codes}
+use Rattle.std.specs.Cmp.Lexicographic.{pointwise}
+use Rattle.std.specs.List.{list_all}
 use Rattle.scw_text.specs.declared.number.SymId.{SymId}
+use Rattle.scw_classfile.specs.Descriptor.{is_array, is_method}
 use Rattle.scw_classfile.specs.declared.access_flags.AccessFlags.{AccessFlags}
 use Rattle.scw_classfile.specs.declared.pool_entry.PoolEntry.{PoolEntry}
 use Rattle.scw_classfile.specs.declared.class_file.Attribute.{Attribute, roll-Attribute}
@@ -20,13 +23,20 @@ use Rattle.scw_gen.specs.Outcome.{◌>>=◌}
 use Rattle.scw_gen.specs.Around.{Around}
 use Rattle.scw_gen.specs.Excess.{excess_of}
 use Rattle.scw_gen.specs.Method.{Method, method_of_rust, methods_of}
+use Rattle.scw_gen.specs.Name.{get_name}
 use Rattle.scw_gen.specs.Named.{encoded_from, with_instrs}
-use Rattle.scw_gen.specs.Pool.{class_index, utf8_index, with_class, with_utf8}
+use Rattle.scw_gen.specs.Typed.{is_well_typed}
+use Rattle.scw_gen.specs.Pool.{class_index, fits, found, utf8_index, with_class, with_utf8}
 use Rattle.scw_gen.specs.declared.excess.Excess.{Excess}
 use Rattle.scw_gen.specs.declared.fault.GenFault.{GenFault}
 use Rattle.scw_gen.specs.declared.fault.GenFault.TheVariants.{TooLarge, NotBuilt, NoMemory}
 use Rattle.scw_gen.specs.declared.fault.Large.{Large}
 use Rattle.scw_gen.specs.declared.class_file.Made as rust
+use Rattle.scw_gen.specs.declared.class_file.Names as rust_names
+
+-- what code depends on, with near jumps
+abbrev pub around : Program → CoreClass → List PoolEntry → Around
+around p k pool = record { table = p.table; class = k; pool = pool; is_far = false }
 
 -- ---- classes that have code
 
@@ -46,9 +56,29 @@ abbrev pub has_empty_template : Option Template → Bool
 has_empty_template None = true
 has_empty_template (Some t) = is_empty_template t
 
--- an object at the top whose template does nothing
+-- the program has one class, and nothing overrides in it
+abbrev pub is_only : CoreClass → List CoreClass → Bool
+is_only k [] = false
+is_only k (c ∷ []) = same_symbol c.symbol k.symbol && none_of k.override_pairs
+is_only k (c ∷ d ∷ ds) = false
+
+-- the name can be that of a class, and its last unit is `$`, which tells the classes of objects from all others
+abbrev pub ends_in_dollar : List ℕ → Bool
+ends_in_dollar [] = false
+ends_in_dollar (u ∷ []) = nat_eq u 36
+ends_in_dollar (u ∷ v ∷ us) = ends_in_dollar (v ∷ us)
+
+abbrev pub is_class_name : Around → List ℕ → Bool
+is_class_name g own = not (is_array own) && is_method (get_name g).descriptor && ends_in_dollar own
+
+abbrev pub is_fitting : Around → Program → CoreClass → Bool
+is_fitting g p k = is_class_name g (units_of_name k.binary_name) && is_well_typed g p.bodies k.members
+
+-- an object at the top, the only class of its program, whose template does nothing and whose methods are well typed
 abbrev pub is_built : Program → CoreClass → Bool
-is_built p k = is_top_object p.table k && is_plain_line k.symbol k.linearisation && has_empty_template (look p.templates k.symbol)
+is_built p k =
+    is_top_object p.table k && is_plain_line k.symbol k.linearisation && has_empty_template (look p.templates k.symbol)
+    && is_only k p.table.classes && is_fitting (around p k []) p k
 
 -- ---- the pool
 
@@ -70,25 +100,40 @@ with_methods g p (m ∷ ms) = with_method g p m >>= λ q. with_methods g q ms
 abbrev pub short : ℕ → ℕ
 short n = min n (2 ^ 16 - 1)
 
-abbrev pub code_attribute : Around → Method → List any.Instr → Attribute
-code_attribute g m code = roll-Attribute (record {
-  name = utf8_index g.pool (codes "Code");
+-- the attribute `Code`, whose name stands at the index
+abbrev pub code_attribute : ℕ → Method → List any.Instr → Attribute
+code_attribute name m code = roll-Attribute (record {
+  name = name;
   body = body.Code (roll-Code (record { stack = short m.stack; locals = short m.locals; code = code; handlers = []; attributes = [] }));
 })
 
 abbrev pub flags_of : ℕ → AccessFlags
 flags_of n = record { 0 = n }
 
-abbrev pub info_with : Around → Method → List any.Instr → MemberInfo
-info_with g m code = record {
+-- the indices of the name and the descriptor of a method, and of the name of its attribute
+pub record Names : Type 0 where
+  pub name : ℕ
+  pub descriptor : ℕ
+  pub code : ℕ
+
+abbrev pub names_of_rust : rust_names.Names → Names
+names_of_rust n = record { name = n.name; descriptor = n.descriptor; code = n.code }
+
+abbrev pub names_of : List PoolEntry → Method → Option Names
+names_of p m =
+    found (utf8_index p m.name) >>= λ name. found (utf8_index p m.descriptor) >>= λ descriptor. found (utf8_index p (codes "Code")) >>= λ code.
+    Some (record { name = name; descriptor = descriptor; code = code })
+
+abbrev pub info_with : Names → Method → List any.Instr → MemberInfo
+info_with n m code = record {
   flags = flags_of m.flags;
-  name = utf8_index g.pool m.name;
-  descriptor = utf8_index g.pool m.descriptor;
-  attributes = code_attribute g m code ∷ [];
+  name = n.name;
+  descriptor = n.descriptor;
+  attributes = code_attribute n.code m code ∷ [];
 }
 
 abbrev pub member_info : Around → Method → Option MemberInfo
-member_info g m = encoded_from g [] m.instrs >>= λ code. Some (info_with g m code)
+member_info g m = encoded_from g [] m.instrs >>= λ code. names_of g.pool m >>= λ names. Some (info_with names m code)
 
 -- methods of the file, and behind them these
 unfoldable pub member_infos : Around → List MemberInfo → List Method → Option (List MemberInfo)
@@ -96,9 +141,6 @@ member_infos g found [] = Some found
 member_infos g found (m ∷ ms) = member_info g m >>= λ x. member_infos g (found ++ x ∷ []) ms
 
 -- ---- the file
-
-abbrev pub around : Program → CoreClass → List PoolEntry → Around
-around p k pool = record { table = p.table; class = k; pool = pool; is_far = false }
 
 -- the pool and the methods of a class file
 pub record Made : Type 0 where
@@ -115,29 +157,50 @@ needed_in g p = methods_of g p.bodies >>= λ ms. with_methods g (first_pool g) m
 abbrev pub needed : Program → CoreClass → Option (List PoolEntry)
 needed p k = needed_in (around p k []) p
 
+-- a method has the name and the descriptor of another one (JVMS 4.6)
+abbrev pub is_same : Method → Method → Bool
+is_same m n = pointwise nat_eq m.name n.name && pointwise nat_eq m.descriptor n.descriptor
+
+unfoldable pub is_among : Method → List Method → Bool
+is_among m [] = false
+is_among m (n ∷ ns) = is_same m n || is_among m ns
+
+unfoldable pub are_distinct : List Method → Bool
+are_distinct [] = true
+are_distinct (m ∷ ms) = not (is_among m ms) && are_distinct ms
+
+abbrev pub made_with : List PoolEntry → List Method → Option Made
+made_with pool ms = cond (are_distinct ms && list_all fits pool) (Some (record { pool = pool; methods = ms })) None
+
 abbrev pub made_under : Program → CoreClass → List PoolEntry → Option Made
-made_under p k pool = methods_of (around p k pool) p.bodies >>= λ ms. Some (record { pool = pool; methods = ms })
+made_under p k pool = methods_of (around p k pool) p.bodies >>= made_with pool
 
 -- the pool and the methods, whose code has the indices of this pool
 abbrev pub made : Program → CoreClass → Option Made
 made p k = cond (is_built p k) (needed p k >>= λ pool. made_under p k pool) None
 
-abbrev pub file_with : CoreClass → List PoolEntry → List MemberInfo → ClassFile
-file_with k pool infos = record {
+abbrev pub file_with : List PoolEntry → List MemberInfo → ℕ → ℕ → ClassFile
+file_with pool infos this parent = record {
   minor = 0;
   major = 52;
   pool = pool;
   flags = flags_of 0x21;
-  this = class_index pool (units_of_name k.binary_name);
-  parent = class_index pool (codes "java/lang/Object");
+  this = this;
+  parent = parent;
   interfaces = [];
   fields = [];
   methods = infos;
   attributes = [];
 }
 
+-- with the indices of the class itself and of its superclass
+abbrev pub file_by : CoreClass → List PoolEntry → List MemberInfo → Option ClassFile
+file_by k pool infos =
+    found (class_index pool (units_of_name k.binary_name)) >>= λ this. found (class_index pool (codes "java/lang/Object")) >>= λ parent.
+    Some (file_with pool infos this parent)
+
 abbrev pub file : Program → CoreClass → Made → Option ClassFile
-file p k m = member_infos (around p k m.pool) [] m.methods >>= λ infos. Some (file_with k m.pool infos)
+file p k m = member_infos (around p k m.pool) [] m.methods >>= λ infos. file_by k m.pool infos
 
 abbrev pub large : CoreClass → Excess → Large
 large k e = record { class = k.binary_name; kind = e.kind; number = e.number }

@@ -24,7 +24,6 @@ size_of (instr.Constant c) = 2
 size_of (instr.WideConstant c) = 3
 size_of (instr.LongBit b) = 1
 size_of (instr.LongConstant n) = 3
-size_of instr.Null = 1
 size_of (instr.Load w n) = slot_size n
 size_of (instr.Store w n) = slot_size n
 size_of (instr.Arithmetic w o) = 1

@@ -10,6 +10,7 @@ pub mod Code
 pub mod Room
 pub mod Name
 pub mod Encode
+pub mod Typed
 pub mod Named
 pub mod Method
 pub mod Excess

@@ -1,5 +1,6 @@
 -- Names and descriptors of methods: JVMS 4.2 and 4.3. A name of the source stands as it is.
 use Rattle.std.specs.Prelude.{ℕ, List, [], ◌∷◌, ◌++◌, cond, Option, Some, None, codes}
+use Rattle.scw_classfile.specs.Descriptor.{is_method}
 use Rattle.scw_core.specs.Text.{units_of_name}
 use Rattle.scw_core.specs.Types.{Name}
 use Rattle.scw_core.specs.declared.class.Member.{Member}
@@ -64,9 +65,13 @@ named class name descriptor = record { class = class; name = name; descriptor = 
 abbrev pub own_method : Around → List ℕ → List ℕ → MethodName
 own_method g name descriptor = named (units_of_name g.class.binary_name) name descriptor
 
+-- a name with a descriptor of JVMS 4.3.3
+abbrev pub described : MethodName → Option MethodName
+described n = cond (is_method n.descriptor) (Some n) None
+
 -- of the class itself
 abbrev pub method_name : Around → Member → Option MethodName
-method_name g m = descriptor g m >>= λ text. Some (own_method g (units_of_name m.name) text)
+method_name g m = descriptor g m >>= λ text. described (own_method g (units_of_name m.name) text)
 
 abbrev pub run_method : List ℕ → List ℕ → MethodName
 run_method name descriptor = named (codes "scalaw/rt/Run") name descriptor

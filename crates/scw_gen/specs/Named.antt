@@ -11,7 +11,7 @@ use Rattle.scw_gen.specs.Outcome.{◌>>=◌}
 use Rattle.scw_gen.specs.Around.{Around}
 use Rattle.scw_gen.specs.Encode.{encoded}
 use Rattle.scw_gen.specs.Name.{built_in_name, method_name, object_init, this_init}
-use Rattle.scw_gen.specs.Pool.{class_index, integer_index, long_index, method_index, string_index, with_class, with_integer, with_long, with_method, with_string}
+use Rattle.scw_gen.specs.Pool.{class_index, found, integer_index, long_index, method_index, string_index, with_class, with_integer, with_long, with_method, with_string}
 use Rattle.scw_gen.specs.declared.instr.Constant.{Constant}
 use Rattle.scw_gen.specs.declared.instr.Constant.TheVariants as constant
 use Rattle.scw_gen.specs.declared.instr.Instr.{Instr}
@@ -44,13 +44,14 @@ named_by g instr.InitThis = Some (Method (this_init g))
 named_by g instr.New = Some (Class (units_of_name g.class.binary_name))
 named_by g _ = Some Nothing
 
-abbrev pub index_of_named : List PoolEntry → Named → ℕ
-index_of_named p Nothing = 0
-index_of_named p (Integer n) = integer_index p n
-index_of_named p (Long n) = long_index p n
-index_of_named p (Text text) = string_index p text
-index_of_named p (Class name) = class_index p name
-index_of_named p (Method m) = method_index p m
+-- where it stands in the pool; what is nothing has the index 0
+abbrev pub index_of_named : List PoolEntry → Named → Option ℕ
+index_of_named p Nothing = Some 0
+index_of_named p (Integer n) = found (integer_index p n)
+index_of_named p (Long n) = found (long_index p n)
+index_of_named p (Text text) = found (string_index p text)
+index_of_named p (Class name) = found (class_index p name)
+index_of_named p (Method m) = found (method_index p m)
 
 abbrev pub with_named : List PoolEntry → Named → List PoolEntry
 with_named p Nothing = p
@@ -68,4 +69,4 @@ with_instrs g p (i ∷ is) = named_by g i >>= λ n. with_instrs g (with_named p 
 -- a code, and behind it instructions with their opcodes and operands
 unfoldable pub encoded_from : Around → List any.Instr → List Instr → Option (List any.Instr)
 encoded_from g code [] = Some code
-encoded_from g code (i ∷ is) = named_by g i >>= λ n. encoded_from g (code ++ encoded i (index_of_named g.pool n) ∷ []) is
+encoded_from g code (i ∷ is) = named_by g i >>= λ n. index_of_named g.pool n >>= λ index. encoded_from g (code ++ encoded i index ∷ []) is

@@ -1,5 +1,5 @@
 -- The code of operators, behind that of their operands: SLS 6.12 and 12.2, by the instructions of JVMS 6.5.
-use Rattle.std.specs.Prelude.{ℕ, ℤ, pos, negsuc, List, [], ◌∷◌, ◌++◌, Bool, cond, nat_eq, nat_le, Option, Some, None}
+use Rattle.std.specs.Prelude.{ℕ, ℤ, pos, negsuc, List, [], ◌∷◌, ◌++◌, cond, nat_eq, nat_le, Option, Some, None}
 use Rattle.std.specs.Int.{w32, cast_signed}
 use Rattle.scw_text.specs.declared.number.SymId.{SymId}
 use Rattle.scw_value.specs.declared.comparison.Comparison.TheVariants as comparison

@@ -1,6 +1,8 @@
 -- The constant pool: JVMS 4.4. An entry stands in it once, behind those that it names.
-use Rattle.std.specs.Prelude.{ℕ, List, [], ◌∷◌, ◌++◌, Bool, false, cond, ◌&&◌, nat_eq}
+use Rattle.std.specs.Prelude.{ℕ, ◌^◌, List, [], ◌∷◌, ◌++◌, Bool, true, false, cond, ◌&&◌, nat_eq, nat_lt, Option, Some, None}
+use Rattle.std.specs.List.{list_all}
 use Rattle.std.specs.Cmp.Lexicographic.{pointwise}
+use Rattle.scw_text.specs.Modified.{is_unit}
 use Rattle.scw_classfile.specs.declared.pool_entry.PoolEntry.{PoolEntry}
 use Rattle.scw_classfile.specs.declared.pool_entry.PoolEntry.TheVariants as pool
 use Rattle.scw_gen.specs.declared.pool.Entry.{Entry}
@@ -54,6 +56,13 @@ entry_of (entry.Str text) = pool.Str text
 entry_of (entry.NameAndType name descriptor) = pool.NameAndType name descriptor
 entry_of (entry.Methodref class name) = pool.Methodref class name
 
+-- the numbers of the entry fit their fields: units have 16 bits, and numbers 32 or 64
+abbrev pub fits : PoolEntry → Bool
+fits (pool.Utf8 us) = list_all is_unit us
+fits (pool.Integer n) = nat_lt n (2 ^ 32)
+fits (pool.Long n) = nat_lt n (2 ^ 64)
+fits _ = true
+
 -- ---- indices, which count from 1, and are 0 where nothing is found
 
 -- that of the first entry that passes, counted from k
@@ -84,6 +93,10 @@ name_and_type_index p name descriptor = index_of p (entry.NameAndType (utf8_inde
 
 abbrev pub method_index : List PoolEntry → MethodName → ℕ
 method_index p m = index_of p (entry.Methodref (class_index p m.class) (name_and_type_index p m.name m.descriptor))
+
+-- an index at which something was found
+abbrev pub found : ℕ → Option ℕ
+found n = cond (nat_eq n 0) None (Some n)
 
 -- ---- the pool with an entry, and with those that it names
 

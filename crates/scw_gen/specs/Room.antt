@@ -98,11 +98,6 @@ left_by g Values t = width_at g t
 left_by g Effects t = 0
 left_by g Texts t = 1
 
--- the most that one of the locals takes
-unfoldable pub widest : Around → List Local → ℕ
-widest g [] = 0
-widest g (x ∷ xs) = max (width_at g x.type_id) (widest g xs)
-
 abbrev pub of_end : Mode → Trees → ℕ
 of_end m none = of_given m 1
 of_end m (more t ts) = 0
@@ -113,7 +108,7 @@ unfoldable mutual
   -- how deep the stack gets by the code of a tree; where a test jumps, and how far, doesn't matter
   pub stack_of : Around → Mode → Tree → ℕ
   stack_of g m (strict i o ts) = max (stack_of_operands g (form_of m o) 0 ts) (of_op g m o i.type_id)
-  stack_of g m (block i xs ts) = max (stack_of_statements g m ts) (max (widest g xs) (of_end m ts))
+  stack_of g m (block i xs ts) = max (stack_of_statements g m ts) (of_end m ts)
   stack_of g m (and_also i a b) = 0
   stack_of g m (or_else i a b) = 0
   stack_of g m (if_else i a b c) = max (stack_of g (Test true 0) a) (max (stack_of g m b) (stack_of g m c))

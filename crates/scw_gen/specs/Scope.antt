@@ -1,16 +1,13 @@
 -- Where locals stand in a frame: JVMS 2.6.1. A slot is taken while its local is bound, and by no other then.
-use Rattle.std.specs.Prelude.{ℕ, pos, List, [], ◌∷◌, ◌++◌, false, Option, Some, None, find}
+use Rattle.std.specs.Prelude.{ℕ, List, [], ◌∷◌, ◌++◌, Option, Some, find}
 use Rattle.scw_text.specs.declared.number.SymId.{SymId}
 use Rattle.scw_core.specs.Program.{Table}
 use Rattle.scw_core.specs.Types.{same_symbol}
 use Rattle.scw_core.specs.declared.tree.Local.{Local}
 use Rattle.scw_gen.specs.Outcome.{◌>>=◌}
 use Rattle.scw_gen.specs.Instr.{plus}
-use Rattle.scw_gen.specs.Kind.{kind_at, width_of, word_of}
-use Rattle.scw_gen.specs.declared.instr.Instr.{Instr}
-use Rattle.scw_gen.specs.declared.instr.Instr.TheVariants as instr
+use Rattle.scw_gen.specs.Kind.{kind_at, width_of}
 use Rattle.scw_gen.specs.declared.kind.Kind.{Kind}
-use Rattle.scw_gen.specs.declared.kind.Kind.TheVariants as kind
 use Rattle.scw_gen.specs.declared.scope.Scope as rust
 use Rattle.scw_gen.specs.declared.scope.Slot.{Slot}
 
@@ -44,18 +41,3 @@ placed table own s (x ∷ xs) = kind_at table own x.type_id >>= λ k. placed tab
 -- the first scope, inside the second
 abbrev pub inside : Scope → Scope → Scope
 inside inner outer = record { slots = inner.slots ++ outer.slots; next = inner.next }
-
--- the zero that a local begins with
-abbrev pub zero_of : Kind → Instr
-zero_of kind.Unit = instr.Null
-zero_of kind.Boolean = instr.Number (pos 0)
-zero_of kind.Int = instr.Number (pos 0)
-zero_of kind.Long = instr.LongBit false
-zero_of kind.String = instr.Null
-zero_of kind.Strings = instr.Null
-zero_of kind.This = instr.Null
-
--- sets locals to zero
-unfoldable pub cleared : List Slot → List Instr
-cleared [] = []
-cleared (s ∷ ss) = zero_of s.kind ∷ instr.Store (word_of s.kind) s.place ∷ cleared ss

@@ -16,7 +16,7 @@ use crate::mode::{
     Mode, Tail, alone, both, branches, decided, join, jump_back, jump_size, mode_of_test, unit,
 };
 use crate::operator::{Form, form_of, op_code, text_of};
-use crate::scope::{Scope, cleared, inside, placed};
+use crate::scope::{Scope, inside, placed};
 use scw_core::{Literal, Local, NodeInfo, Op, Tree};
 use std::alloc::AllocError;
 
@@ -153,12 +153,10 @@ fn emit_block(
     ensures { Gives (λ v. v.items) result (spec.block_code (around_of g.now) (scope_of scope.now) mode locals.now (λ s. spec.statements (around_of g.now) s mode (trees_view statements.now)) (spec.block_end g.now.is_far mode (trees_view statements.now))) }
 {
     let inner = placed(g.alloc, g.table, g.class.symbol, scope.next, locals)?;
-    let zeros = cleared(g.alloc, &inner.slots)?;
     let inner = inside(inner, scope)?;
     let first = emit_statements(g, &inner, mode, statements)?;
     let end = block_end(g, mode, statements)?;
-    let rest = join(first, &end)?;
-    Ok(join(zeros, &rest)?)
+    Ok(join(first, &end)?)
 }
 
 /// The code of the statements of a block.

@@ -6,10 +6,10 @@ ghost use Rattle.scw_gen.specs.Encode as spec;
 use crate::instr::{BuiltIn, Compared, Instr};
 use crate::kind::Word;
 use crate::opcode::{
-    ACONST_NULL, ALOAD, ALOAD_0, ARETURN, ASTORE, ASTORE_0, BIPUSH, DUP, GOTO, GOTO_W, IADD, IAND,
-    ICONST_0, IDIV, IF_ICMPEQ, IFEQ, ILOAD, ILOAD_0, IMUL, INVOKESPECIAL, INVOKESTATIC,
-    INVOKEVIRTUAL, IOR, IREM, IRETURN, ISTORE, ISTORE_0, ISUB, IXOR, LCMP, LCONST_0, LDC, LDC_W,
-    LDC2_W, LLOAD, LLOAD_0, LRETURN, LSTORE, LSTORE_0, NEW, POP, POP2, RETURN, SIPUSH, WIDE,
+    ALOAD, ALOAD_0, ARETURN, ASTORE, ASTORE_0, BIPUSH, DUP, GOTO, GOTO_W, IADD, IAND, ICONST_0,
+    IDIV, IF_ICMPEQ, IFEQ, ILOAD, ILOAD_0, IMUL, INVOKESPECIAL, INVOKESTATIC, INVOKEVIRTUAL, IOR,
+    IREM, IRETURN, ISTORE, ISTORE_0, ISUB, IXOR, LCMP, LCONST_0, LDC, LDC_W, LDC2_W, LLOAD,
+    LLOAD_0, LRETURN, LSTORE, LSTORE_0, NEW, POP, POP2, RETURN, SIPUSH, WIDE,
 };
 use scw_code::{InstrArgs, Numbers};
 use scw_core::Width;
@@ -197,7 +197,6 @@ pub(crate) fn encoded(instr: Instr, index: u16) -> scw_code::Instr
         Instr::WideConstant(_) => with_index(LDC_W, index),
         Instr::LongBit(b) => bare(if b { LCONST_0 + 1 } else { LCONST_0 }),
         Instr::LongConstant(_) => with_index(LDC2_W, index),
-        Instr::Null => bare(ACONST_NULL),
         Instr::Load(w, n) => load(w, n),
         Instr::Store(w, n) => store(w, n),
         Instr::Arithmetic(w, o) => bare(arithmetic(w, o)),

@@ -61,8 +61,6 @@ pub enum Instr {
     LongBit(bool),
     /// `ldc2_w`: a number by its bits.
     LongConstant(u64),
-    /// `aconst_null`
-    Null,
     /// `iload`, `lload` or `aload`
     Load(Word, u16),
     /// `istore`, `lstore` or `astore`
@@ -140,7 +138,6 @@ impl Instr {
             Instr::Number(n) => number_size(n),
             Instr::Load(_, n) | Instr::Store(_, n) => slot_size(n),
             Instr::LongBit(_)
-            | Instr::Null
             | Instr::Arithmetic(..)
             | Instr::Division(..)
             | Instr::CompareLongs

@@ -4,6 +4,7 @@
 #![tactic(auto)]
 
 mod around;
+mod built;
 mod class_file;
 mod emit;
 mod encode;
@@ -25,9 +26,17 @@ mod scope;
 mod test_program;
 #[cfg(test)]
 mod tests;
+mod typed;
+mod typed_op;
 
 pub use class_file::generate;
 pub use excess::{Excess, MAX_ARGUMENTS, MAX_POOL, MAX_SHORT};
 pub use fault::{GenFault, Large, LargeKind};
 pub use instr::{BuiltIn, Compared, Constant, Instr};
 pub use kind::{Kind, Word};
+pub use mode::Mode;
+pub use named::Named;
+pub use operator::Form;
+pub use pool::MethodName;
+pub use scope::Slot;
+pub use typed::Known;

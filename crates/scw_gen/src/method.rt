@@ -74,7 +74,7 @@ fn is_def(kind: MemberKind) -> bool
 }
 
 /// A method with a body, of the object, without type parameters.
-fn is_method(m: &Member) -> bool
+pub(crate) fn is_method(m: &Member) -> bool
     ensures { result ≡ spec.is_method m.now }
 {
     is_def(m.kind)
@@ -86,7 +86,7 @@ fn is_method(m: &Member) -> bool
 
 /// The body of a member.
 #[tactic(auto, unfolding(scw_core::specs::Program::look))]
-fn tree_in<'a>(bodies: &'a [Body], m: SymId) -> Option<&'a Tree>
+pub(crate) fn tree_in<'a>(bodies: &'a [Body], m: SymId) -> Option<&'a Tree>
     ensures { option_map tree_of (option_copied result) ≡ look (map body_of bodies.now) m }
 {
     for body in bodies {
@@ -98,7 +98,10 @@ fn tree_in<'a>(bodies: &'a [Body], m: SymId) -> Option<&'a Tree>
 }
 
 /// The parameters, as locals.
-fn locals_of_parameters(g: &Around<'_>, parameters: &[Parameter]) -> Result<Vec<Local>, AllocError>
+pub(crate) fn locals_of_parameters(
+    g: &Around<'_>,
+    parameters: &[Parameter],
+) -> Result<Vec<Local>, AllocError>
     ensures { IfOk result (λ xs. xs.items ≡ map spec.local_of parameters.now) }
 {
     let mut locals = Vec::new(g.alloc);

@@ -11,6 +11,7 @@ use crate::failure::Failure;
 use crate::instr::BuiltIn;
 use crate::kind::Kind;
 use crate::pool::MethodName;
+use scw_classfile::is_method;
 use scw_core::{Member, Parameter};
 use scw_text::Units;
 use sqlite_items::Items;
@@ -151,6 +152,9 @@ pub(crate) fn method_name(g: &Around<'_>, m: &Member) -> Result<MethodName, Fail
     let descriptor = descriptor(g, m)?;
     let class = units_of_name(g.alloc, g.class.binary_name.as_slice())?;
     let name = units_of_name(g.alloc, m.name.as_slice())?;
+    if !is_method(descriptor.as_slice()) {
+        return Err(Failure::Other);
+    }
     Ok(MethodName {
         class,
         name,

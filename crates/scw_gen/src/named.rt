@@ -13,7 +13,7 @@ use crate::instr::{Constant, Instr};
 use crate::name::{built_in_name, method_name, object_init, this_init, units_of_name};
 use crate::operator::member_in;
 use crate::pool::{
-    MethodName, add_class, add_integer, add_long, add_method, add_string, class_index,
+    MethodName, add_class, add_integer, add_long, add_method, add_string, class_index, found,
     integer_index, long_index, method_index, string_index,
 };
 use scw_classfile::{Pool, PoolEntry};
@@ -25,7 +25,7 @@ use std::alloc::{AllocError, Global};
 
 /// What an instruction names in the pool.
 #[derive(Drop)]
-pub(crate) enum Named {
+pub enum Named {
     Nothing,
     Integer(u32),
     Long(u64),
@@ -74,7 +74,7 @@ fn named_by(g: &Around<'_>, instr: Instr) -> Result<Named, Failure>
         Instr::InitObject => Ok(Named::Method(object_init(g.alloc)?)),
         Instr::InitThis => Ok(Named::Method(this_init(g)?)),
         Instr::New => Ok(Named::Class(units_of_name(g.alloc, g.class.binary_name.as_slice())?)),
-        Instr::Number(_) | Instr::LongBit(_) | Instr::Null | Instr::Load(..) | Instr::Store(..) => {
+        Instr::Number(_) | Instr::LongBit(_) | Instr::Load(..) | Instr::Store(..) => {
             Ok(Named::Nothing)
         }
         Instr::Arithmetic(..) | Instr::Division(..) | Instr::CompareLongs => Ok(Named::Nothing),
@@ -86,16 +86,17 @@ fn named_by(g: &Around<'_>, instr: Instr) -> Result<Named, Failure>
     }
 }
 
-fn index_of_named(pool: &[PoolEntry], named: &Named) -> u16
+/// Where it stands in the pool; what is nothing has the index 0.
+fn index_of_named(pool: &[PoolEntry], named: &Named) -> Option<u16>
     ensures { result ≡ spec.index_of_named pool.now named.now }
 {
     match named {
-        Named::Nothing => 0,
-        Named::Integer(n) => integer_index(pool, *n),
-        Named::Long(n) => long_index(pool, *n),
-        Named::Text(text) => string_index(pool, text.as_slice()),
-        Named::Class(name) => class_index(pool, name.as_slice()),
-        Named::Method(m) => method_index(pool, m),
+        Named::Nothing => Some(0),
+        Named::Integer(n) => found(integer_index(pool, *n)),
+        Named::Long(n) => found(long_index(pool, *n)),
+        Named::Text(text) => found(string_index(pool, text.as_slice())),
+        Named::Class(name) => found(class_index(pool, name.as_slice())),
+        Named::Method(m) => found(method_index(pool, m)),
     }
 }
 
@@ -133,7 +134,10 @@ pub(crate) fn encoded_all(g: &Around<'_>, instrs: &[Instr]) -> Result<Instrs, Fa
     let mut code = Items::new(g.alloc);
     for instr in instrs {
         let named = named_by(g, *instr)?;
-        code.push(encoded(*instr, index_of_named(g.pool, &named)))?;
+        match index_of_named(g.pool, &named) {
+            None => return Err(Failure::Other),
+            Some(index) => code.push(encoded(*instr, index))?,
+        }
     }
     Ok(code)
 }

@@ -1,7 +1,5 @@
 //! The opcodes that code is made of (JVMS 6.5). Where one stands for several, the others follow it in order.
 
-/// `aconst_null`
-pub const ACONST_NULL: u8 = 1;
 /// `iconst_0`, with `iconst_m1` before it and `iconst_1` to `iconst_5` behind it.
 pub const ICONST_0: u8 = 3;
 /// `lconst_0`, and `lconst_1`.

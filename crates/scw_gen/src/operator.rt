@@ -199,7 +199,7 @@ fn call(g: &Around<'_>, mode: Mode, m: SymId) -> Result<Vec<Instr>, Failure>
     }
 }
 
-fn kind_of_width(w: Width) -> Kind
+pub(crate) fn kind_of_width(w: Width) -> Kind
     ensures { result ≡ spec.kind_of_width w }
 {
     match w {

@@ -2,8 +2,10 @@
 //!
 //! Indices that don't fit 16 bits stand as the largest number that does: no pool that is short enough for a class has one.
 
-ghost use Rattle.std.specs.Prelude.{◌≡◌, OnOk};
+ghost use Rattle.std.specs.Prelude.{◌≡◌, ◌^◌, nat_lt, OnOk};
+ghost use Rattle.std.specs.List.{list_all};
 ghost use Rattle.scw_gen.specs.Pool as spec;
+ghost use Rattle.scw_text.specs.Modified.{is_unit};
 
 use crate::instr::plus;
 use scw_classfile::{Pool, PoolEntry};
@@ -27,7 +29,7 @@ pub enum Entry {
 
 /// The class, the name and the descriptor of a method.
 #[derive(Drop)]
-pub(crate) struct MethodName {
+pub struct MethodName {
     pub class: Units,
     pub name: Units,
     pub descriptor: Units,
@@ -122,6 +124,46 @@ fn entry_of(entry: Entry) -> PoolEntry
     }
 }
 
+/// Units have 16 bits by their type.
+fn are_units(_units: &[u16]) -> bool
+    ensures { result ≡ list_all is_unit _units.now }
+{
+    true
+}
+
+/// A number has 32 bits by its type.
+fn fits_int(_n: u32) -> bool
+    ensures { result ≡ nat_lt _n (2 ^ 32) }
+{
+    true
+}
+
+/// A number has 64 bits by its type.
+fn fits_long(_n: u64) -> bool
+    ensures { result ≡ nat_lt _n (2 ^ 64) }
+{
+    true
+}
+
+/// The numbers of the entry fit their fields, by their types.
+fn fits(entry: &PoolEntry) -> bool
+    ensures { result ≡ spec.fits entry.now }
+{
+    match entry {
+        PoolEntry::Utf8(units) => are_units(units.as_slice()),
+        PoolEntry::Integer(n) => fits_int(*n),
+        PoolEntry::Long(n) => fits_long(*n),
+        _ => true,
+    }
+}
+
+/// The numbers of all entries fit their fields.
+pub(crate) fn all_fit(pool: &[PoolEntry]) -> bool
+    ensures { result ≡ list_all spec.fits pool.now }
+{
+    pool.iter().all(|entry| fits(entry))
+}
+
 /// The index of a text, or 0 where it isn't there.
 #[tactic(auto, unfolding(crate::specs::Pool::utf8_index))]
 pub(crate) fn utf8_index(pool: &[PoolEntry], text: &[u16]) -> u16
@@ -150,6 +192,13 @@ fn index_of(pool: &[PoolEntry], entry: Entry) -> u16
         index = plus(index, 1);
     }
     0
+}
+
+/// The index, where something was found at it.
+pub(crate) fn found(index: u16) -> Option<u16>
+    ensures { result ≡ spec.found index }
+{
+    if index == 0 { None } else { Some(index) }
 }
 
 pub(crate) fn integer_index(pool: &[PoolEntry], n: u32) -> u16

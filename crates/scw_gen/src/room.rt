@@ -121,18 +121,6 @@ fn left_by(g: &Around<'_>, form: Form, t: TypeId) -> u64
     }
 }
 
-/// The most that one of the locals takes.
-#[tactic(auto, unfolding(crate::specs::Room::widest))]
-fn widest(g: &Around<'_>, locals: &[Local]) -> u64
-    ensures { result ≡ spec.widest (around_of g.now) locals.now }
-{
-    let mut most: u64 = 0;
-    for x in locals {
-        most = most.max(width_at(g, x.type_id));
-    }
-    most
-}
-
 /// What stands behind the statements of a block.
 fn of_end(mode: Mode, statements: &[Tree]) -> u64
     ensures { result ≡ spec.of_end mode (trees_view statements.now) }
@@ -154,8 +142,8 @@ pub(crate) fn stack_of(g: &Around<'_>, mode: Mode, tree: &Tree) -> u64
             let behind = of_op(g, mode, *op, i.type_id);
             stack_of_operands(g, form_of(mode, *op), operands.as_slice()).max(behind)
         }
-        Tree::Block(_, locals, statements) => {
-            let ends = widest(g, locals.as_slice()).max(of_end(mode, statements.as_slice()));
+        Tree::Block(_, _, statements) => {
+            let ends = of_end(mode, statements.as_slice());
             stack_of_statements(g, mode, statements.as_slice()).max(ends)
         }
         Tree::If(_, a, b, c) => {

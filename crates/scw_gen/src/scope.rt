@@ -6,7 +6,7 @@ ghost use Rattle.scw_gen.specs.Outcome.{Gives};
 ghost use Rattle.scw_gen.specs.Scope as spec;
 
 use crate::failure::Failure;
-use crate::instr::{Instr, plus};
+use crate::instr::plus;
 use crate::kind::{Kind, kind_at};
 use scw_core::{Local, Table};
 use scw_text::SymId;
@@ -72,27 +72,4 @@ pub(crate) fn inside(inner: Scope, outer: &Scope) -> Result<Scope, AllocError>
     let Scope { mut slots, next } = inner;
     slots.extend_from_slice(&outer.slots)?;
     Ok(Scope { slots, next })
-}
-
-fn zero_of(kind: Kind) -> Instr
-    ensures { result ≡ spec.zero_of kind }
-{
-    match kind {
-        Kind::Boolean | Kind::Int => Instr::Number(0),
-        Kind::Long => Instr::LongBit(false),
-        Kind::Unit | Kind::String | Kind::Strings | Kind::This => Instr::Null,
-    }
-}
-
-/// The code that sets locals to zero.
-#[tactic(auto, unfolding(crate::specs::Scope::cleared))]
-pub(crate) fn cleared(alloc: Global, slots: &[Slot]) -> Result<Vec<Instr>, AllocError>
-    ensures { IfOk result (λ v. v.items ≡ spec.cleared slots.now) }
-{
-    let mut instrs = Vec::new(alloc);
-    for slot in slots {
-        instrs.push(zero_of(slot.kind))?;
-        instrs.push(Instr::Store(slot.kind.word(), slot.place))?;
-    }
-    Ok(instrs)
 }

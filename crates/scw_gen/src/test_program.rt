@@ -261,12 +261,16 @@ fn heads(alloc: Global) -> Result<Items<Head>, AllocError> {
     Ok(heads)
 }
 
-/// `object Main` with these members.
-pub fn object(alloc: Global, members: Items<Member>) -> Result<CoreClass, AllocError> {
+/// `object Main` with these members, by this name in its class file.
+pub fn object(
+    alloc: Global,
+    binary_name: &str,
+    members: Items<Member>,
+) -> Result<CoreClass, AllocError> {
     Ok(CoreClass {
         symbol: OBJECT,
         name_span: NOWHERE,
-        binary_name: text(alloc, "Main$")?,
+        binary_name: text(alloc, binary_name)?,
         kind: ClassKind::Object,
         modifiers: UNMODIFIED,
         block: None,
@@ -280,11 +284,17 @@ pub fn object(alloc: Global, members: Items<Member>) -> Result<CoreClass, AllocE
     })
 }
 
-/// The program with these bodies. Its classes are passed beside it.
-pub fn program(alloc: Global, bodies: Items<Body>) -> Result<Program, AllocError> {
+/// The program of this class, with these bodies.
+pub fn program(
+    alloc: Global,
+    class: CoreClass,
+    bodies: Items<Body>,
+) -> Result<Program, AllocError> {
+    let mut classes = Items::new(alloc);
+    classes.push(class)?;
     Ok(Program {
         table: Table {
-            classes: Items::new(alloc),
+            classes,
             heads: heads(alloc)?,
             types: types(alloc)?,
             texts: texts(alloc)?,

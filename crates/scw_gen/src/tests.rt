@@ -7,19 +7,24 @@ use crate::test_program::{
 };
 use crate::{GenFault, LargeKind, generate};
 use scw_classfile::{AttrBody, ClassFile, MemberInfo};
-use scw_core::{Body, Literal, Local, Member, Op, Parameter, Tree, Width};
+use scw_core::{Body, CoreClass, Literal, Local, Member, Op, Parameter, Tree, Width};
 use scw_text::{SymId, TypeId};
 use scw_value::{Arithmetic, Comparison};
 use sqlite_items::Items;
 use std::alloc::{AllocError, Global};
 use std::test::Fail;
 
-/// The method that is tried, its parameter, and a local of its body.
+/// The method that is tried, its parameter, and locals of its body.
 const F: SymId = SymId(50);
 
 const N: SymId = SymId(51);
 
 const X: SymId = SymId(52);
+
+const Y: SymId = SymId(53);
+
+/// A second method.
+const G: SymId = SymId(60);
 
 // Codes by their opcodes, each with its first operand or 0.
 
@@ -38,13 +43,16 @@ const LOOP: [(u8, i32); 12] = [
     (60, 0), (167, -17), (177, 0),
 ];
 
-/// lconst_0; lstore_2, then iload_1; iconst_0; if_icmplt; iload_1; iconst_1; iadd; istore_1, and iload_1; iconst_5; if_icmpge;
-/// iload_1; iconst_1; iadd; istore_1; return
+/// iload_1; iconst_0; if_icmplt; iload_1; iconst_1; iadd; istore_1, and iload_1; iconst_5; if_icmpge; iload_1; iconst_1; iadd;
+/// istore_1; return
 #[rattlefmt::skip]
-const COUNTED: [(u8, i32); 17] = [
-    (9, 0), (65, 0), (27, 0), (3, 0), (161, 7), (27, 0), (4, 0), (96, 0), (60, 0), (27, 0),
-    (8, 0), (162, 7), (27, 0), (4, 0), (96, 0), (60, 0), (177, 0),
+const COUNTED: [(u8, i32); 15] = [
+    (27, 0), (3, 0), (161, 7), (27, 0), (4, 0), (96, 0), (60, 0), (27, 0), (8, 0), (162, 7),
+    (27, 0), (4, 0), (96, 0), (60, 0), (177, 0),
 ];
+
+/// iload_1; istore_2; iload_2; ireturn
+const KEPT: [(u8, i32); 4] = [(27, 0), (61, 0), (28, 0), (172, 0)];
 
 /// lload_1; ldc2_w; lcmp; ifgt; iconst_1; goto; iconst_0; ireturn
 #[rattlefmt::skip]
@@ -72,21 +80,37 @@ fn f(alloc: Global, t: TypeId, u: TypeId) -> Result<Member, AllocError> {
     method(alloc, F, "f", parameter(t), u)
 }
 
-fn members(alloc: Global, m: Member) -> Result<Items<Member>, AllocError> {
-    let mut members = Items::new(alloc);
-    members.push(m)?;
-    Ok(members)
+/// The class file of a program of one class.
+fn file_of(alloc: Global, class: CoreClass, bodies: Items<Body>) -> Result<ClassFile, GenFault> {
+    let program = program(alloc, class, bodies)?;
+    match program.table.classes.as_slice() {
+        [class] => generate(alloc, &program, class),
+        _ => Err(GenFault::NotBuilt),
+    }
 }
 
-/// The class file of the object with this method alone.
-fn file(alloc: Global, m: Member, tree: Tree) -> Result<ClassFile, GenFault> {
+/// The class file of the object with this method alone, by this name.
+fn file_named(alloc: Global, name: &str, m: Member, tree: Tree) -> Result<ClassFile, GenFault> {
     let mut bodies = Items::new(alloc);
     bodies.push(Body {
         member: m.symbol,
         tree,
     })?;
-    let class = object(alloc, members(alloc, m)?)?;
-    generate(alloc, &program(alloc, bodies)?, &class)
+    let mut members = Items::new(alloc);
+    members.push(m)?;
+    file_of(alloc, object(alloc, name, members)?, bodies)
+}
+
+/// The class file of the object with this method alone.
+fn file(alloc: Global, m: Member, tree: Tree) -> Result<ClassFile, GenFault> {
+    file_named(alloc, "Main$", m, tree)
+}
+
+fn is_not_built(answer: Result<ClassFile, GenFault>) -> bool {
+    match answer {
+        Err(GenFault::NotBuilt) => true,
+        Ok(_) | Err(GenFault::TooLarge(_)) | Err(GenFault::NoMemory) => false,
+    }
 }
 
 /// An opcode and its first operand, or 0.
@@ -273,11 +297,124 @@ fn println_joins_the_texts(rt: HostRuntime) -> Result<(), Fail> {
 fn a_form_without_code_is_not_built(rt: HostRuntime) -> Result<(), Fail> {
     let alloc = rt.alloc();
     let cell = binary(alloc, INT_TYPE, Op::CellSet, int(alloc, 1), int(alloc, 2))?;
-    match file(alloc, f(alloc, INT_TYPE, INT_TYPE)?, cell) {
-        Err(GenFault::NotBuilt) => {}
-        Ok(_) | Err(GenFault::TooLarge(_)) | Err(GenFault::NoMemory) => {
-            assert!(rt; false, "a cell has no code");
-        }
+    let answer = file(alloc, f(alloc, INT_TYPE, INT_TYPE)?, cell);
+    assert!(rt; is_not_built(answer), "a cell has no code");
+    Ok(())
+}
+
+/// `def f(n: Int): Int` with this body isn't built.
+fn is_refused(alloc: Global, tree: Tree) -> Result<bool, AllocError> {
+    Ok(is_not_built(file(alloc, f(alloc, INT_TYPE, INT_TYPE)?, tree)))
+}
+
+#[test]
+fn an_ill_typed_tree_is_not_built(rt: HostRuntime) -> Result<(), Fail> {
+    let alloc = rt.alloc();
+    let sum = computed(alloc, Arithmetic::Add, n(alloc), int(alloc, 1))?;
+    assert!(rt; !is_refused(alloc, sum)?, "n + 1");
+    let mixed = computed(alloc, Arithmetic::Add, n(alloc), boolean(alloc, true))?;
+    assert!(rt; is_refused(alloc, mixed)?, "n + true");
+    assert!(rt;
+        is_refused(alloc, boolean(alloc, true))?,
+        "the result is no Int"
+    );
+    let told = leaf(alloc, LONG_TYPE, Op::Literal(Literal::Int(1)));
+    let none = file(alloc, f(alloc, INT_TYPE, LONG_TYPE)?, told);
+    assert!(rt; is_not_built(none), "its node tells another type");
+    let branches = chosen(
+        alloc,
+        INT_TYPE,
+        n_below(alloc, 2)?,
+        int(alloc, 1),
+        unit(alloc),
+    )?;
+    assert!(rt; is_refused(alloc, branches)?, "a branch is no Int");
+    let test = chosen(alloc, INT_TYPE, n(alloc), int(alloc, 1), int(alloc, 2))?;
+    assert!(rt; is_refused(alloc, test)?, "the test is no Boolean");
+    Ok(())
+}
+
+/// `{ var x: Int; a; x }`
+fn ending_in_x(alloc: Global, a: Tree) -> Result<Tree, AllocError> {
+    block(alloc, INT_TYPE, X, INT_TYPE, a, local(alloc, INT_TYPE, X))
+}
+
+#[test]
+fn a_local_is_set_before_it_is_read(rt: HostRuntime) -> Result<(), Fail> {
+    let alloc = rt.alloc();
+    let kept = ending_in_x(alloc, set(alloc, X, n(alloc))?)?;
+    let class = file(alloc, f(alloc, INT_TYPE, INT_TYPE)?, kept)?;
+    assert_eq!(rt;
+        code_of(alloc, &class)?.as_slice(),
+        KEPT.as_slice(),
+        "var x = n; x"
+    );
+    assert_eq!(rt; room_of_file(&class), (1, 3), "a number; this, n and x");
+    let unset = ending_in_x(alloc, unit(alloc))?;
+    assert!(rt; is_refused(alloc, unset)?, "x has no value");
+    let set_in_branch = chosen(
+        alloc,
+        UNIT_TYPE,
+        n_below(alloc, 2)?,
+        set(alloc, X, n(alloc))?,
+        unit(alloc),
+    )?;
+    let perhaps = ending_in_x(alloc, set_in_branch)?;
+    assert!(rt; is_refused(alloc, perhaps)?, "a branch gives x no value");
+    Ok(())
+}
+
+/// `{ var x: Int; { var y: Int; (); n }; n }`
+fn nested(alloc: Global, y: SymId) -> Result<Tree, AllocError> {
+    let inner = block(alloc, INT_TYPE, y, INT_TYPE, unit(alloc), n(alloc))?;
+    block(alloc, INT_TYPE, X, INT_TYPE, inner, n(alloc))
+}
+
+#[test]
+fn a_local_is_bound_once(rt: HostRuntime) -> Result<(), Fail> {
+    let alloc = rt.alloc();
+    assert!(rt; !is_refused(alloc, nested(alloc, Y)?)?, "x and y");
+    assert!(rt; is_refused(alloc, nested(alloc, X)?)?, "x inside x");
+    assert!(rt; is_refused(alloc, nested(alloc, N)?)?, "a parameter");
+    Ok(())
+}
+
+/// The object with `def f(n: Int): Int` and a second method of this name, each of which gives n.
+fn two_methods(alloc: Global, name: &str) -> Result<ClassFile, GenFault> {
+    let mut bodies = Items::new(alloc);
+    bodies.push(Body {
+        member: F,
+        tree: n(alloc),
+    })?;
+    bodies.push(Body {
+        member: G,
+        tree: n(alloc),
+    })?;
+    let mut members = Items::new(alloc);
+    members.push(f(alloc, INT_TYPE, INT_TYPE)?)?;
+    members.push(method(alloc, G, name, parameter(INT_TYPE), INT_TYPE)?)?;
+    file_of(alloc, object(alloc, "Main$", members)?, bodies)
+}
+
+#[test]
+fn two_methods_differ_in_name_or_descriptor(rt: HostRuntime) -> Result<(), Fail> {
+    let alloc = rt.alloc();
+    let both = two_methods(alloc, "g")?;
+    assert_eq!(rt;
+        both.methods.len(),
+        4,
+        "the constructor, the one that gives the object, f and g"
+    );
+    assert!(rt; is_not_built(two_methods(alloc, "f")), "f and f");
+    Ok(())
+}
+
+#[test]
+fn the_name_of_a_class_ends_in_a_dollar(rt: HostRuntime) -> Result<(), Fail> {
+    let alloc = rt.alloc();
+    for name in ["Main", "", "$;$", "[$"] {
+        let answer = file_named(alloc, name, f(alloc, INT_TYPE, INT_TYPE)?, n(alloc));
+        assert!(rt; is_not_built(answer), "it is no name of an object's class");
     }
     Ok(())
 }
@@ -285,9 +422,9 @@ fn a_form_without_code_is_not_built(rt: HostRuntime) -> Result<(), Fail> {
 /// `def f(n: Long, ..): Int` with so many parameters.
 fn f_of_longs(alloc: Global, count: u32) -> Result<Member, AllocError> {
     let mut m = f(alloc, LONG_TYPE, INT_TYPE)?;
-    for _turn in 1..count {
+    for turn in 1..count {
         m.parameters.push(Parameter {
-            symbol: N,
+            symbol: SymId(100 + u64::from(turn)),
             type_id: LONG_TYPE,
             is_by_name: false,
         })?;

@@ -3,3 +3,4 @@ pub mod RunLemmas
 pub mod LoadLemmas
 pub mod TellLemmas
 pub mod UnlimitedLemmas
+pub mod RowLemmas

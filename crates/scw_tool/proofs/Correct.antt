@@ -36,7 +36,7 @@ use Rattle.scw_tool.proofs.CourseLemmas.{advances, course_is}
 use Rattle.scw_tool.proofs.Launch.{launches, start, two}
 use Rattle.scw_tool.proofs.LinkLemmas.{P, program_is, launch_main, launch_return, main_site, main_linked, print_operation, unit_operation, return_operation}
 use Rattle.scw_tool.proofs.Means.{IsString, Pushed, Roomy, Rows, alike_text, at_main, called, here, launcher, one_row, state_of, then_rows}
-use Rattle.scw_tool.proofs.RowLemmas.{built-in-does, ends-does, made-there, print-does, return-does, roomy-from, row, said-text, unit-does, unit-made}
+use Rattle.scw_machine.proofs.RowLemmas.{built-in-does, ends-does, made-there, print-does, return-does, roomy-from, row, said-text, unit-does, unit-made}
 use Rattle.scw_tool.proofs.SumMeans.{DoesLine, line_does, line_bytes, line_rows, line_rows-le, line_tree}
 use Rattle.scw_tool.proofs.Whole.{both_end}
 

@@ -25,7 +25,7 @@ use Rattle.scw_tool.specs.Tree.{Tree}
 use Rattle.scw_tool.proofs.CodeLemmas.{HasAt, has_all}
 use Rattle.scw_tool.proofs.LinkLemmas.{P, acts, duplicate_operation, get_is, get_method, get_return_operation, init_is, init_method, launch_array, launch_get, launch_main, launch_zero, main_class, main_class_fields, main_class_there, main_is, main_method, main_selector_kinds, main_site, main_target, new_operation, object_init_operation, own_init_operation, return_operation, this_operation}
 use Rattle.scw_tool.proofs.Means.{Roomy, Word, Rows, here, one_row, state_of, then_rows}
-use Rattle.scw_tool.proofs.RowLemmas.{array-does, entered-does, made-there, new-does, object-starts, push-does, return-does, roomy-from, row, special-built-in, special-enters, static-enters, virtual-enters}
+use Rattle.scw_machine.proofs.RowLemmas.{array-does, entered-does, made-there, new-does, object-starts, push-does, return-does, roomy-from, row, special-built-in, special-enters, static-enters, virtual-enters}
 
 -- the object, and the empty array of strings
 abbrev one : List Entity

@@ -7,7 +7,6 @@ pub mod CodeLemmas
 pub mod InstrLemmas
 pub mod CourseLemmas
 pub mod LinkLemmas
-pub mod RowLemmas
 pub mod TextLemmas
 pub mod Means
 pub mod SumMeans

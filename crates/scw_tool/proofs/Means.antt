@@ -56,7 +56,7 @@ use Rattle.scw_tool.proofs.SourceLaws.{steps_add}
 use Rattle.scw_tool.proofs.CodeLemmas.{span, HasAt, span-append, has_front, has_back, instruction_is}
 use Rattle.scw_tool.proofs.CourseLemmas.{advances, advances_add}
 use Rattle.scw_tool.proofs.LinkLemmas.{P, add_operation, box_operation, concat_operation, main_fetched, main_site, multiply_operation, number_operation, to_string_operation, to_string_selector, to_string_target}
-use Rattle.scw_tool.proofs.RowLemmas.{IsText, arithmetic-does, box-does, box-made, built-in-does, concat-does, made-there, push-does, roomy-from, row, text-does, text-made, to-string-does, virtual-does}
+use Rattle.scw_machine.proofs.RowLemmas.{IsText, arithmetic-does, box-does, box-made, built-in-does, concat-does, made-there, push-does, roomy-from, row, text-does, text-made, to-string-does, virtual-does}
 use Rattle.scw_tool.proofs.TextLemmas.{computed_small, int_text-narrow, int_text-short, narrow-append}
 
 -- ---- the source

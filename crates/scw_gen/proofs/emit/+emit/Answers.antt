@@ -1,4 +1,4 @@
-use Rattle.std.proofs.Common.{◌≡◌, ◌+◌, ◌-◌, length, rules, arith}
+use Rattle.std.proofs.Common.{◌≡◌, ◌-◌, length, rules, arith}
 use Rattle.std.proofs.lemmas.Grind.{common_steps}
 use Rattle.scw_core.specs.Tree.{if_else}
 use Rattle.scw_core.specs.TreeOf.{tree_of}

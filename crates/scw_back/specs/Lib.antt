@@ -1,0 +1,3 @@
+pub mod MachineSeen
+pub mod Back
+pub mod Same

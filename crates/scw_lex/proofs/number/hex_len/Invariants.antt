@@ -1,0 +1,10 @@
+use Rattle.std.proofs.Common.{◌≡◌, ◌+◌, ◌-◌, ◌≤◌, length, drop}
+use Rattle.std.specs.List.{prefix_len}
+use Rattle.std.specs.Char.{is_ascii_hexdigit}
+use Rattle.scw_lex.proofs.number.hex_len.Given as goal
+
+abbrev pub invariant-loop-len : goal.invariant-loop-len
+invariant-loop-len l = (l.len + prefix_len (is_ascii_hexdigit) (drop l.len l.text) ≡ prefix_len (is_ascii_hexdigit) l.text) × (l.len ≤ length l.text)
+
+abbrev pub decreases-loop-len : goal.decreases-loop-len
+decreases-loop-len l = length l.text - l.len

@@ -1,0 +1,17 @@
+pub mod Character
+pub mod Reserved
+pub mod Within
+pub mod Name
+pub mod Number
+pub mod Escape
+pub mod Comment
+pub mod Literal
+pub mod Gap
+pub mod Front
+pub mod Lexical
+pub mod Stands
+pub mod Lexing
+pub mod Newline
+pub mod Filter
+pub mod Read
+pub mod Tokens
