@@ -110,7 +110,7 @@ fn ending_of(alloc: Global, source: &str) -> Result<(End, Vec<u8>), Fail> {
 fn a_source_runs(rt: HostRuntime) -> Result<(), Fail> {
     let (end, taken) = ending_of(rt.alloc(), NUMBERS)?;
     assert_eq!(rt; end, End::Ended);
-    assert_eq!(rt; taken.as_slice(), b"f1\nf1\nf2\nf3\nf5\n");
+    assert_eq!(rt; taken.as_slice(), b"f1\nf1\nf2\nf3\nf5\n".as_slice());
     Ok(())
 }
 

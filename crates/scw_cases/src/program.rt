@@ -129,7 +129,7 @@ fn run_files(
 }
 
 /// Runs the files.
-fn ran(alloc: Global, files: &Files, limits: Limits) -> Result<Ran, Fail>
+fn outcome_of(alloc: Global, files: &Files, limits: Limits) -> Result<Ran, Fail>
     requires { length files.now ≤ 2 }
 {
     let main = text(alloc, "Main")?;
@@ -146,7 +146,7 @@ fn ran(alloc: Global, files: &Files, limits: Limits) -> Result<Ran, Fail>
 
 /// Runs the case.
 pub fn run(alloc: Global, case: &Case<'_>, limits: Limits) -> Result<Ran, Fail> {
-    ran(alloc, &files(alloc, case)?, limits)
+    outcome_of(alloc, &files(alloc, case)?, limits)
 }
 
 /// Runs the class `Main$`.
@@ -155,7 +155,7 @@ pub fn run_class(alloc: Global, class: &ClassFile, limits: Limits) -> Result<Ran
 {
     let mut files = Items::new(alloc);
     files.push(written(alloc, class)?)?;
-    ran(alloc, &files, limits)
+    outcome_of(alloc, &files, limits)
 }
 
 /// Whether the case ends, and puts just this.
