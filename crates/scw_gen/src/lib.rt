@@ -22,10 +22,6 @@ mod operator;
 mod pool;
 mod room;
 mod scope;
-#[cfg(test)]
-mod test_program;
-#[cfg(test)]
-mod tests;
 mod typed;
 mod typed_op;
 

@@ -14,14 +14,10 @@ mod grammar;
 mod layout;
 mod lexing;
 mod limit;
-#[cfg(test)]
-mod limit_tests;
 mod method;
 mod number;
 mod operation;
 mod source;
-#[cfg(test)]
-mod tests;
 mod token;
 mod tree;
 

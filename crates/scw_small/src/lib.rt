@@ -10,8 +10,6 @@ mod rule;
 mod scope;
 mod state;
 mod symbol;
-#[cfg(test)]
-mod tests;
 mod typed;
 mod typing;
 

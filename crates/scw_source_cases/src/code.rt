@@ -1,11 +1,11 @@
 //! Code that was worked out by hand.
 
-use crate::test_program::{
+use crate::program::{
     BOOLEAN_TYPE, INT_TYPE, LONG_TYPE, STRINGS_TYPE, UNIT_TYPE, binary, block, boolean, called,
     chosen, compared, computed, int, leaf, local, method, object, printed, program, repeated, set,
     unit,
 };
-use crate::{GenFault, LargeKind, generate};
+use scw_gen::{GenFault, LargeKind, generate};
 use scw_classfile::{AttrBody, ClassFile, MemberInfo};
 use scw_core::{Body, CoreClass, Literal, Local, Member, Op, Parameter, Tree, Width};
 use scw_text::{SymId, TypeId};

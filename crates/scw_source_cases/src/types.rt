@@ -1,6 +1,6 @@
 //! Texts that have a program and texts that have none, as the rules of types and scopes have it.
 
-use crate::read_program;
+use scw_small::read_program;
 use scw_text::NoMemory;
 use std::alloc::Global;
 use std::test::Fail;

@@ -1,6 +1,6 @@
 //! Texts that are sources and texts that are not, as the grammar and the limits have it.
 
-use crate::read_small;
+use scw_reader::read_small;
 use scw_text::NoMemory;
 use std::alloc::{AllocError, Global};
 use std::test::Fail;

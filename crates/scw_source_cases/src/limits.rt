@@ -1,6 +1,6 @@
 //! Gaps between tokens, methods, and each limit met and passed by one.
 
-use crate::tests::{is_body, is_read, joined};
+use crate::forms::{is_body, is_read, joined};
 use std::alloc::{AllocError, Global};
 use std::test::Fail;
 
