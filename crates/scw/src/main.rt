@@ -2,7 +2,7 @@
 #![tactic(auto)]
 
 use scw_outside::{DirStore, StdSink};
-use scw_tool::{Status, report, scw_main};
+use scw_tool::{Answer, report, scw_main};
 use sqlite_items::Items;
 use std::alloc::AllocError;
 use std::env;
@@ -28,8 +28,8 @@ fn main(rt: HostRuntime) -> ExitCode {
     let mut err = StdSink::new(rt.stderr());
     let Ok(words) = words_of(&rt) else {
         // The status stays where the line isn't taken.
-        let _ = report(&mut err, None, Status::NoMemory);
-        return ExitCode::from(Status::NoMemory.number());
+        let _ = report(&mut err, None, &Answer::NoMemory);
+        return ExitCode::from(Answer::NoMemory.number());
     };
     let mut store = DirStore::new(&rt, Items::new(alloc));
     let mut out = StdSink::new(rt.stdout());

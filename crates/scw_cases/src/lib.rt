@@ -11,6 +11,8 @@ mod class_bytes;
 #[cfg(test)]
 mod class_files;
 #[cfg(test)]
+mod ends;
+#[cfg(test)]
 mod faults;
 #[cfg(test)]
 mod generated;

@@ -43,14 +43,10 @@ fn the_last_line_end_may_be_left_out(rt: HostRuntime) -> Result<(), Fail> {
 }
 
 #[test]
-fn a_source_has_at_most_100_numbers(rt: HostRuntime) -> Result<(), Fail> {
+fn a_long_sum_is_one_value(rt: HostRuntime) -> Result<(), Fail> {
     let alloc = rt.alloc();
-    let source = source_of(alloc, ones(alloc, 100)?.as_str())?;
-    prints(&rt, alloc, source.as_bytes(), "100\n", "100 numbers")?;
     let source = source_of(alloc, ones(alloc, 101)?.as_str())?;
-    let ended = Call::new(&["run", "A.scala"], source.as_bytes()).run(alloc)?;
-    assert_eq!(rt; ended.outcome.status, 14);
-    Ok(())
+    prints(&rt, alloc, source.as_bytes(), "101\n", "101 numbers")
 }
 
 #[test]

@@ -16,25 +16,27 @@ use Rattle.scw_machine.specs.Load.{AreFilesOf, IsBad, IsLoaded, first, units_of}
 use Rattle.scw_machine.specs.Run.{Running}
 use Rattle.scw_back.specs.Back.{file_of_program}
 use Rattle.scw_back.specs.Same.{DoesTheSame, object_name}
-use Rattle.scw_run.specs.Load.{HasNoMain, IsMachineOf}
+use Rattle.scw_run.specs.Load.{HasNoMain, IsMachineOf, files_of}
+use Rattle.scw_run.specs.declared.loading.Loaded.{Loaded}
 
 abbrev Alone : Type 0
 Alone = (c d : ClassFile) (bytes : List ℕ) → ClassBytes c bytes → ClassBytes d bytes → c ≡ d
 
-abbrev files_of : ClassFile → List FileOut
-files_of c = record { name = []; bytes = class.spell c } ∷ []
-
-module _ (p : core.Program) (c : ClassFile) (right : IsWritable c) (alone : Alone) (files : List FileOut) (written : files ≡ files_of c) (main : List ℕ) where
+module _ (p : core.Program) (c : ClassFile) (right : IsWritable c) (alone : Alone) (files : List FileOut) (written : files ≡ files_of p c) (main : List ℕ) where
   -- the file is that of the class, and of no other
-  classes_are : (cs : List ClassFile) → AreFilesOf cs (files_of c) → cs ≡ c ∷ []
+  classes_are : (cs : List ClassFile) → AreFilesOf cs (files_of p c) → cs ≡ c ∷ []
   classes_are [] h = absurd h
   classes_are (d ∷ []) h = ap (λ (k : ClassFile). k ∷ []) (alone d c (class.spell c) h.0 (right, refl))
   classes_are (d ∷ f ∷ fs) h = absurd h.1
 
-  pub loaded : (made : file_of_program p ≡ Some (Ok c)) (same : DoesTheSame p c) (heap frames words : ℕ) (m : Running) → IsLoaded m files main heap frames words → IsMachineOf p main heap frames words m
+  pub loaded : (made : file_of_program p ≡ Some (Ok c)) (same : DoesTheSame p c) (heap frames words : ℕ) (m : Running) → IsLoaded m files main heap frames words → IsMachineOf p main heap frames words (record { files = files; machine = m })
   loaded made same heap frames words m l =
       let cs = classes_are l.classes (subst (AreFilesOf l.classes) written l.files_of) in
-      record { file = c; made = made; same = same; machine = l.machine ∙ ap (λ ks. first (linked ks (units_of main)) heap frames words) cs }
+      record {
+        file = c;
+        compiled = record { made = made; spelled = written; back = class_again c right; same = same };
+        machine = l.machine ∙ ap (λ ks. first (linked ks (units_of main)) heap frames words) cs;
+      }
 
   pub without_main : DoesTheSame p c → machine.HasNoMain files main → HasNoMain p main
   without_main same l o entry named =
@@ -47,6 +49,6 @@ module _ (p : core.Program) (c : ClassFile) (right : IsWritable c) (alone : Alon
   pub not_bad : (n : ℕ) (r : ClassRefusal) → IsBad n r files → ⊥
   not_bad n r h = by n (subst (IsBad n r) written h)
     where
-      by : (n : ℕ) → IsBad n r (files_of c) → ⊥
+      by : (n : ℕ) → IsBad n r (files_of p c) → ⊥
       by zero h = no_fault r h
       by (suc n) h = absurd h

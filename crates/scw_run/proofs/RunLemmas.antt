@@ -85,17 +85,19 @@ module _ (p : core.Program) (c : ClassFile) (o : SymId) (same : DoesTheSame p c)
   never m s out is = true≢false (sym (ap is_stuck is) ∙ (same.runs o entry).never_stuck m)
 
   module _ (heap frames words steps : ℕ) (new : Running) (before now : Option (List ℕ)) (room : Option ℕ) where
-    by : (end : End) (rows : ℕ) → CameUnlimited end steps rows L (first_state L (Some heap) (Some frames) (Some words)) new.state before now room → Shows p o L steps end new before now
+    by : (end : End) (rows : ℕ) → new.done ≡ rows → CameUnlimited end steps rows L (first_state L (Some heap) (Some frames) (Some words)) new.state before now room → Shows p o L steps end new before now
     unfolding machine_seen
-    by why.Ended rows h = ends (h.earlier + 1) h.out seen.normal before now (ap (machine_seen L) h.over) record {} h.taken
-    by (why.Thrown r) rows h = ends (h.earlier + 1) h.out (exception_at L new.state.heap.objects r.0) before now (ap (machine_seen L) h.over) record {} h.taken
-    by why.Steps rows h = subst (λ n. GoesOn p o n before now) h.0 (goes rows _ h.1.out before now h.1.run h.1.taken)
-    by (why.HeapFull need) rows h = (rows, goes rows _ h.out before now h.run h.taken)
-    by why.Frames rows h = (rows, goes rows _ h.out before now h.run h.taken)
-    by why.SinkFault rows h = breaks steps rows before now room h
-    by (why.Stuck place) rows h = never (rows + 1) _ h.stops.out h.stops.over
+    by why.Ended rows d h = ends (h.earlier + 1) h.out seen.normal before now (ap (machine_seen L) h.over) record {} h.taken
+    by (why.Thrown r) rows d h = ends (h.earlier + 1) h.out (exception_at L new.state.heap.objects r.0) before now (ap (machine_seen L) h.over) record {} h.taken
+    by why.Steps rows d h = (d ∙ h.0, subst (λ n. GoesOn p o n before now) (sym d) (goes rows _ h.1.out before now h.1.run h.1.taken))
+    by (why.HeapFull need) rows d h = subst (λ n. GoesOn p o n before now) (sym d) (goes rows _ h.out before now h.run h.taken)
+    by why.Frames rows d h = subst (λ n. GoesOn p o n before now) (sym d) (goes rows _ h.out before now h.run h.taken)
+    by why.SinkFault rows d h = breaks steps rows before now room h
+    by (why.Stuck place) rows d h = never (rows + 1) _ h.stops.out h.stops.over
 
 -- what an answer of the machine says of the program
 pub shows : (p : core.Program) (c : ClassFile) (o : SymId) → DoesTheSame p c → IsEntry p.table (main_of o) → (heap frames words steps : ℕ) (end : End) (new : Running) (before now : Option (List ℕ)) (room : Option ℕ)
     → RanUnlimited end steps (first (machine_of p c o) heap frames words) new before now room → Shows p o (machine_of p c o) steps end new before now
-shows p c o same entry heap frames words steps end new before now room h = by p c o same entry heap frames words steps new before now room end h.rows h.came
+shows p c o same entry heap frames words steps end new before now room h =
+    let none : 0 + h.rows ≡ h.rows = omega arith in
+    by p c o same entry heap frames words steps new before now room end h.rows (h.done ∙ none) h.came

@@ -40,8 +40,8 @@ pub record Breaks (p : core.Program) (o : SymId) (before now : Option (List ℕ)
 abbrev pub Shows : core.Program → SymId → Program → ℕ → End → Running → Option (List ℕ) → Option (List ℕ) → Type 0
 Shows p o l steps why.Ended new before now = Ends p o seen.normal before now
 Shows p o l steps (why.Thrown r) new before now = Ends p o (exception_at l new.state.heap.objects r.0) before now
-Shows p o l steps why.Steps new before now = GoesOn p o steps before now
-Shows p o l steps (why.HeapFull need) new before now = (rows : ℕ) × GoesOn p o rows before now
-Shows p o l steps why.Frames new before now = (rows : ℕ) × GoesOn p o rows before now
+Shows p o l steps why.Steps new before now = (new.done ≡ steps) × GoesOn p o new.done before now
+Shows p o l steps (why.HeapFull need) new before now = GoesOn p o new.done before now
+Shows p o l steps why.Frames new before now = GoesOn p o new.done before now
 Shows p o l steps why.SinkFault new before now = Breaks p o before now
 Shows p o l steps (why.Stuck place) new before now = ⊥

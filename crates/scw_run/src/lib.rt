@@ -8,4 +8,4 @@ mod laws;
 mod loading;
 
 pub use laws::runs_do_the_same;
-pub use loading::{RunFault, load_program};
+pub use loading::{Loaded, RunFault, load_program};

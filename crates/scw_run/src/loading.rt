@@ -3,17 +3,17 @@
 ghost use Rattle.std.specs.Prelude.{◌≡◌, ◌≤◌, ◌∷◌, List, [], IfOk, IfErr};
 ghost use Rattle.scw_classfile.specs.Format.{class};
 ghost use Rattle.scw_classfile.specs.ReadClass.{IsWritable};
-ghost use Rattle.scw_core.specs.ProgramOf.{program_of};
-ghost use Rattle.scw_run.specs.Load.{IsMachineOf, Refuses};
+ghost use Rattle.scw_core.specs.ProgramOf.{program_of, table_of};
+ghost use Rattle.scw_run.specs.Load.{IsMachineOf, Refuses, files_of, first_name};
 
 use scw_back::class_file;
 use scw_classfile::{ClassFile, FileOut, Files, bytes_tell_the_class, write_class};
-use scw_core::Program;
+use scw_core::{CoreClass, Program};
 use scw_gen::{GenFault, Large};
 use scw_machine::{LoadFault, Machine, load};
 use scw_text::{NoMemory, Text};
 use sqlite_items::Items;
-use std::alloc::Global;
+use std::alloc::{AllocError, Global};
 
 /// Why a program has no machine.
 #[derive(Debug, Drop)]
@@ -28,22 +28,40 @@ pub enum RunFault {
     NoMemory,
 }
 
-/// The one file of a class.
-fn written(alloc: Global, file: &ClassFile) -> Result<Files, NoMemory>
+/// A program that was compiled and loaded.
+#[derive(Drop)]
+pub struct Loaded {
+    /// Its one class file, under the binary name of the class.
+    pub files: Files,
+    /// The machine that runs the file.
+    pub machine: Machine,
+}
+
+/// The binary name of the first class.
+fn first_name(alloc: Global, classes: &[CoreClass]) -> Result<Text, AllocError>
+    ensures { IfOk result (λ name. name ≡ first_name classes.now) }
+{
+    match classes {
+        [] => Ok(Items::new(alloc)),
+        [class, ..] => Items::from_slice(alloc, class.binary_name.as_slice()),
+    }
+}
+
+/// The one file of a program's class.
+fn written(alloc: Global, program: &Program, file: &ClassFile) -> Result<Files, NoMemory>
     requires { IsWritable file.now }
-    ensures { IfOk result (λ files. files ≡ record { name = []; bytes = class.spell file.now } ∷ []) }
+    ensures { IfOk result (λ files. files ≡ files_of (program_of program.now) file.now) }
 {
     let bytes = write_class(alloc, file)?;
+    let name = first_name(alloc, program.table.classes.as_slice())?;
     let mut files = Items::new(alloc);
-    files.push(FileOut {
-        name: Items::new(alloc),
-        bytes,
-    })?;
+    files.push(FileOut { name, bytes })?;
     Ok(files)
 }
 
-/// The machine that runs the class file of a program, before its first row, from the object of the name. The file's bytes
-/// are read back. The heap has so many units of 16 bytes; so many frames may be open at once, with so many words together.
+/// The class file of a program, and the machine that runs it, before its first row, from the object of the name. The file's
+/// bytes are read back. The heap has so many units of 16 bytes; so many frames may be open at once, with so many words
+/// together.
 ///
 /// # Errors
 ///
@@ -57,10 +75,10 @@ pub fn load_program(
     heap: u32,
     frames: u32,
     words: u32,
-) -> Result<Machine, RunFault>
+) -> Result<Loaded, RunFault>
     requires frames { 1 ≤ frames }
     requires words { 4 ≤ words }
-    ensures ok { IfOk result (λ m. IsMachineOf (program_of program.now) main.now heap frames words m) }
+    ensures ok { IfOk result (λ l. IsMachineOf (program_of program.now) main.now heap frames words l) }
     ensures err { IfErr result (λ f. Refuses f (program_of program.now) main.now) }
 {
     bytes_tell_the_class();
@@ -70,12 +88,12 @@ pub fn load_program(
         Err(GenFault::NotBuilt) => return Err(RunFault::NotBuilt),
         Err(GenFault::NoMemory) => return Err(RunFault::NoMemory),
     };
-    let files = match written(alloc, &file) {
+    let files = match written(alloc, program, &file) {
         Ok(files) => files,
         Err(NoMemory) => return Err(RunFault::NoMemory),
     };
     match load(alloc, &files, main, heap, frames, words) {
-        Ok(machine) => Ok(machine),
+        Ok(machine) => Ok(Loaded { files, machine }),
         Err(LoadFault::NoMain) => Err(RunFault::NoMain),
         Err(LoadFault::NoMemory) => Err(RunFault::NoMemory),
         Err(LoadFault::Bad { .. }) => unreachable!(),

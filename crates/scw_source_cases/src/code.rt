@@ -2,12 +2,12 @@
 
 use crate::program::{
     BOOLEAN_TYPE, INT_TYPE, LONG_TYPE, STRINGS_TYPE, UNIT_TYPE, binary, block, boolean, called,
-    chosen, compared, computed, int, leaf, local, method, object, printed, program, repeated, set,
-    unit,
+    chosen, compared, computed, int, leaf, lines, local, method, object, printed, program,
+    repeated, set, unit,
 };
-use scw_gen::{GenFault, LargeKind, generate};
 use scw_classfile::{AttrBody, ClassFile, MemberInfo};
 use scw_core::{Body, CoreClass, Literal, Local, Member, Op, Parameter, Tree, Width};
+use scw_gen::{GenFault, LargeKind, generate};
 use scw_text::{SymId, TypeId};
 use scw_value::{Arithmetic, Comparison};
 use sqlite_items::Items;
@@ -433,8 +433,8 @@ fn f_of_longs(alloc: Global, count: u32) -> Result<Member, AllocError> {
 }
 
 /// What there is too much of in the class with this method, and how much.
-fn excess_of(alloc: Global, m: Member) -> Option<(LargeKind, u64)> {
-    match file(alloc, m, int(alloc, 1)) {
+fn excess_of(alloc: Global, m: Member, tree: Tree) -> Option<(LargeKind, u64)> {
+    match file(alloc, m, tree) {
         Err(e) => match e {
             GenFault::TooLarge(large) => Some((large.kind, large.number)),
             GenFault::NotBuilt | GenFault::NoMemory => None,
@@ -452,11 +452,32 @@ fn parameters_take_at_most_255_slots(rt: HostRuntime) -> Result<(), Fail> {
         (1, 255),
         "this, and 127 numbers of two slots"
     );
-    let excess = excess_of(alloc, f_of_longs(alloc, 128)?);
+    let excess = excess_of(alloc, f_of_longs(alloc, 128)?, int(alloc, 1));
     assert_eq!(rt;
         excess,
         Some((LargeKind::Slots, 257)),
         "this, and 128 numbers of two slots"
+    );
+    Ok(())
+}
+
+/// What there is too much of in the class whose method has so many lines to print, each of 20 bytes, and a return.
+fn excess_of_lines(alloc: Global, count: usize) -> Result<Option<(LargeKind, u64)>, AllocError> {
+    let m = f(alloc, INT_TYPE, UNIT_TYPE)?;
+    Ok(excess_of(alloc, m, lines(alloc, count)?))
+}
+
+#[test]
+fn a_method_has_at_most_65535_bytes_of_code(rt: HostRuntime) -> Result<(), Fail> {
+    let alloc = rt.alloc();
+    assert_eq!(rt; excess_of_lines(alloc, 3_276)?, None);
+    assert_eq!(rt;
+        excess_of_lines(alloc, 3_277)?,
+        Some((LargeKind::Code, 65_541))
+    );
+    assert_eq!(rt;
+        excess_of_lines(alloc, 20_000)?,
+        Some((LargeKind::Code, 400_001))
     );
     Ok(())
 }

@@ -187,6 +187,15 @@ pub fn block(
     Ok(Tree::Block(info(t), locals, statements))
 }
 
+/// `{ println(1); .. }`, with so many statements.
+pub fn lines(alloc: Global, count: usize) -> Result<Tree, AllocError> {
+    let mut statements = Vec::new(alloc);
+    for _turn in 0..count {
+        statements.push(printed(alloc, int(alloc, 1))?)?;
+    }
+    Ok(Tree::Block(info(UNIT_TYPE), Vec::new(alloc), statements))
+}
+
 fn text(alloc: Global, characters: &str) -> Result<Text, AllocError> {
     let mut text = Items::new(alloc);
     for c in characters.chars() {

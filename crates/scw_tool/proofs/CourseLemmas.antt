@@ -1,5 +1,5 @@
 -- Laws of a course: rows add up, what is put only grows, and what has halted stays so.
-use Rattle.std.proofs.Common.{◌≡◌, ℕ, zero, suc, ◌+◌, ◌-◌, ◌≤◌, ◌<◌, List, [], refl, sym, ap, ◌∙◌, subst, arith}
+use Rattle.std.proofs.Common.{◌≡◌, ℕ, zero, suc, ◌+◌, ◌-◌, ◌≤◌, ◌<◌, List, [], ◌++◌, length, length-append, append-nil, refl, sym, ap, ◌∙◌, subst, arith}
 use Rattle.std.specs.Prelude.{Result, Ok, Err}
 use Rattle.scw_frame.specs.declared.program.Program.{Program}
 use Rattle.scw_step.specs.declared.event.Event.{Event}
@@ -8,10 +8,9 @@ use Rattle.scw_step.specs.declared.state.State.{State}
 use Rattle.scw_step.specs.declared.stop.Stop.{Stop}
 use Rattle.scw_step.specs.declared.stop.Stop.TheVariants as stop
 use Rattle.scw_step.specs.Step.{stepping}
-use Rattle.scw_machine.specs.Course.{Halt, Course, going, halted, after_step, advance, course}
-use Rattle.scw_tool.specs.Seen.{Covers}
-use Rattle.scw_tool.specs.MachineRun.{shown, shown_halt}
-use Rattle.scw_tool.proofs.SourceLaws.{prefix_refl, covers_refl, covers_trans}
+use Rattle.scw_machine.specs.Course.{Halt, Course, going, halted, after_step, advance, course, output_of}
+use Rattle.scw_core.specs.Seen.{IsPrefix}
+use Rattle.scw_core.proofs.SeenLemmas.{prefix_itself}
 
 -- so many rows more
 unfoldable pub advances : Program → ℕ → Course → Course
@@ -81,34 +80,45 @@ module _ (p : Program) where
 
   -- ---- what is put only grows
 
-  covers_event : (e : Event) (s t : State) (out : List ℕ) → Covers (shown (going s out)) (shown (after_step s out (Ok (e, t))))
-  covers_event event.On s t out = record { out = prefix_refl out; end = λ h. absurd h }
-  covers_event (event.Says r) s t out = record { out = (_, refl); end = λ h. absurd h }
-  covers_event event.Ended s t out = record { out = prefix_refl out; end = λ h. absurd h }
-  covers_event (event.Thrown r) s t out = record { out = prefix_refl out; end = λ h. absurd h }
+  more_event : (e : Event) (s t : State) (out : List ℕ) → IsPrefix out (output_of (after_step s out (Ok (e, t))))
+  more_event event.On s t out = prefix_itself out
+  more_event (event.Says r) s t out = (_, refl)
+  more_event event.Ended s t out = prefix_itself out
+  more_event (event.Thrown r) s t out = prefix_itself out
 
-  covers_stop : (e : Stop) (s : State) (out : List ℕ) → Covers (shown (going s out)) (shown (after_step s out (Err e)))
-  covers_stop stop.Undefined s out = record { out = prefix_refl out; end = λ h. absurd h }
-  covers_stop (stop.Throws f) s out = record { out = prefix_refl out; end = λ h. absurd h }
-  covers_stop (stop.ThrowsObject r) s out = record { out = prefix_refl out; end = λ h. absurd h }
-  covers_stop (stop.HeapFull n) s out = record { out = prefix_refl out; end = λ h. absurd h }
-  covers_stop stop.TooManyFrames s out = record { out = prefix_refl out; end = λ h. absurd h }
+  more_stop : (e : Stop) (s : State) (out : List ℕ) → IsPrefix out (output_of (after_step s out (Err e)))
+  more_stop stop.Undefined s out = prefix_itself out
+  more_stop (stop.Throws f) s out = prefix_itself out
+  more_stop (stop.ThrowsObject r) s out = prefix_itself out
+  more_stop (stop.HeapFull n) s out = prefix_itself out
+  more_stop stop.TooManyFrames s out = prefix_itself out
 
-  covers_result : (r : Result (Event × State) Stop) (s : State) (out : List ℕ) → Covers (shown (going s out)) (shown (after_step s out r))
-  covers_result (Ok x) s out = covers_event x.0 s x.1 out
-  covers_result (Err e) s out = covers_stop e s out
+  more_result : (r : Result (Event × State) Stop) (s : State) (out : List ℕ) → IsPrefix out (output_of (after_step s out r))
+  more_result (Ok x) s out = more_event x.0 s x.1 out
+  more_result (Err e) s out = more_stop e s out
 
-  covers_row : (c : Course) → Covers (shown c) (shown (advance p c))
+  more_row : (c : Course) → IsPrefix (output_of c) (output_of (advance p c))
   unfolding advance
-  covers_row (going s out) = covers_result (stepping p s) s out
-  covers_row (halted h s out) = covers_refl (shown_halt h out)
+  more_row (going s out) = more_result (stepping p s) s out
+  more_row (halted h s out) = prefix_itself out
 
-  covers_rows : (n : ℕ) (c : Course) → Covers (shown c) (shown (advances p n c))
+  longer_row : (c : Course) → length (output_of c) ≤ length (output_of (advance p c))
+  longer_row c = let m = more_row c in omega (arith, ap length m.1, length-append (output_of c) m.0)
+
+  longer_rows : (n : ℕ) (c : Course) → length (output_of c) ≤ length (output_of (advances p n c))
   unfolding advances
-  covers_rows zero c = covers_refl (shown c)
-  covers_rows (suc n) c = covers_trans (shown c) (shown (advance p c)) (shown (advances p n (advance p c))) (covers_row c) (covers_rows n (advance p c))
+  longer_rows zero c = omega arith
+  longer_rows (suc n) c = let a = longer_row c in let b = longer_rows n (advance p c) in omega (arith, a, b)
 
-  -- after more rows a course has come at least as far
-  pub course_covers : (s : State) (m n : ℕ) → Covers (shown (course p s m)) (shown (course p s (m + n)))
-  course_covers s m n =
-      subst (λ c. Covers (shown (course p s m)) (shown c)) (sym (course_is s (m + n) ∙ advances_add m n (going s []) ∙ ap (advances p n) (sym (course_is s m)))) (covers_rows n (course p s m))
+  -- after more rows no less was put
+  longer : (s : State) (m n : ℕ) → length (output_of (course p s m)) ≤ length (output_of (course p s (m + n)))
+  longer s m n =
+      subst (λ (c : Course). length (output_of (course p s m)) ≤ length (output_of c)) (sym (course_is s (m + n) ∙ advances_add m n (going s []) ∙ ap (advances p n) (sym (course_is s m)))) (longer_rows n (course p s m))
+
+  -- nor more than was put in the end
+  pub at_most : (s : State) (m n : ℕ) (h : Halt) (t : State) (out : List ℕ) → course p s m ≡ halted h t out → length (output_of (course p s n)) ≤ length out
+  at_most s m n h t out e =
+      let swap : n + m ≡ m + n = omega arith in
+      let end : output_of (course p s (n + m)) ≡ out = ap (λ k. output_of (course p s k)) swap ∙ ap output_of (halted_later s m n h t out e) in
+      let a = longer s n m in
+      omega (arith, a, ap length end)

@@ -1,6 +1,6 @@
 -- Texts put one after the other.
 use Rattle.std.proofs.Common.{◌≡◌, ℕ, List, ◌++◌, Option, Result, Ok, Err, subst, ◌∙◌}
-use Rattle.std.specs.Prelude.{OnOk}
+use Rattle.std.specs.Prelude.{OnErr, OnOk}
 use Rattle.std.specs.Io.KnownBytes.{append_known}
 use Rattle.scw_outside.proofs.PutsLemmas.{append_known-append}
 use Rattle.scw_outside.specs.declared.sink.SinkFailed.{SinkFailed}
@@ -22,3 +22,8 @@ two_put old one new (Ok u) a b h p =
 -- the same text under another name
 pub put_same : (r : Result (Unit {0}) SinkFailed) (old new : Option (List ℕ)) (a b : List ℕ) → a ≡ b → OnOk r (new ≡ append_known old a) → OnOk r (new ≡ append_known old b)
 put_same r old new a b e p = subst (λ (l : List ℕ). OnOk r (new ≡ append_known old l)) e p
+
+-- where the sink didn't fail, what was promised of its success holds
+pub taken_whole : {A R : Type 0} (r : Result (Unit {0}) SinkFailed) → OnOk r A → OnErr r R → (R → ⊥) → A
+taken_whole (Ok u) a f n = a
+taken_whole (Err e) a f n = absurd (n f)

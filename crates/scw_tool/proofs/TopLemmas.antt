@@ -1,25 +1,37 @@
 -- What the top call says of each answer.
-use Rattle.std.proofs.Common.{◌≡◌, ◌≢◌, ◌⊎◌, inl, inr, ◌↔◌, ℕ, ◌≤◌, Bool, false, List, [], length, Option, Some, None, Ok, nat_lt, refl, sym, ap, subst, ◌∙◌, IsTrue, IfSome, arith}
+use Rattle.std.proofs.Common.{◌≡◌, ◌≢◌, ◌⊎◌, inl, inr, ◌↔◌, ℕ, ◌+◌, ◌≤◌, Bool, false, true, ◌||◌, nat_eq, List, [], length, Option, Some, None, Ok, nat_lt, refl, sym, ap, subst, ◌∙◌, IsTrue, IfSome, arith}
 use Rattle.std.specs.Prelude.{IsSome, IsNone}
 use Rattle.std.proofs.lemmas.Bool.{false≢true, le-ltb}
-use Rattle.std.specs.Io.KnownBytes.{append_known}
 use Rattle.scw_outside.specs.Causes.{Rose}
 use Rattle.scw_outside.specs.Content.{Files, Reads, HasName, IsFront}
-use Rattle.scw_tool.specs.declared.answer.Answer.{Answer}
-use Rattle.scw_tool.specs.declared.answer.Answer.TheVariants.{Done, Shown, Words, ReadFault, WriteFault, ShowFault, BadClass, NoMemory, NotBuilt}
 use Rattle.scw_classfile.specs.declared.class_file.ClassFile.{ClassFile}
+use Rattle.scw_classfile.specs.declared.class_file.FileOut.{FileOut}
+use Rattle.scw_classfile.specs.declared.fault.ClassRefusal.{ClassRefusal}
+use Rattle.scw_classfile.specs.ReadClass.{ClassBytes, read_class}
+use Rattle.scw_classfile.proofs.FormatLemmas.{class_again}
+use Rattle.scw_core.specs.Program.{Program}
+use Rattle.scw_core.specs.Seen as seen
+use Rattle.scw_core.specs.Types.{Name}
+use Rattle.scw_machine.specs.Course.{halted}
+use Rattle.scw_machine.specs.Run.{Running}
+use Rattle.scw_machine.specs.declared.end.End.{End}
+use Rattle.scw_machine.specs.declared.end.End.TheVariants as why
+use Rattle.scw_small.specs.Says.{SaysProgram}
+use Rattle.scw_back.specs.Back.{file_of_program}
+use Rattle.scw_tool.specs.declared.answer.Answer.{Answer}
+use Rattle.scw_tool.specs.declared.answer.Answer.TheVariants.{Ran, Shown, Words, ReadFault, ShowFault, BadClass, TooLarge, NoMemory, NotBuilt}
+use Rattle.scw_tool.specs.declared.answer.Excess.{Excess}
 use Rattle.scw_tool.specs.declared.words.Mode.{Mode}
 use Rattle.scw_tool.specs.declared.words.Mode.TheVariants as mode
+use Rattle.scw_tool.specs.Executed.{CutOff, Executed, Finished, IsReady, RanSo, Stopped}
+use Rattle.scw_tool.specs.Job.{Edge, Comes, has_run, is_judged}
+use Rattle.scw_tool.specs.Machine.{limited_course, status_of_end}
 use Rattle.scw_tool.specs.Read.{HasRead, most_read}
 use Rattle.scw_tool.specs.Show as show
-use Rattle.scw_classfile.specs.ReadClass.{ClassBytes, read_class}
-use Rattle.scw_classfile.specs.declared.fault.ClassRefusal.{ClassRefusal}
-use Rattle.scw_classfile.proofs.FormatLemmas.{class_again}
-use Rattle.scw_tool.specs.Job.{PrintsValue, Executed, CutOff, Judged, IsReady, Edge, Comes, has_run, is_judged}
-use Rattle.scw_tool.specs.Source.{Sum, Says, printed_line}
-use Rattle.scw_tool.specs.Status.{number_of, status_of, files_of, steps_of, IsReason}
+use Rattle.scw_tool.specs.Source.{IsSource, IsTooLarge, Judged, SaysNothing}
+use Rattle.scw_tool.specs.Status.{number_of, files_of, steps_of}
 use Rattle.scw_tool.specs.Words.{job_name, IsMode}
-use Rattle.scw_tool.proofs.SaysLemmas.{says_once}
+use Rattle.scw_tool.proofs.CompleteLemmas.{over_so}
 
 some_not_none : {A : Type 0} (o : Option A) (n : A) → o ≡ Some n → IsNone o → ⊥
 some_not_none None n h k = cc
@@ -47,12 +59,11 @@ read_once (Some files) limit name a b has r t = by (files name) r t
 same_name : (words : List (List ℕ)) (m n : List ℕ) → job_name words ≡ Some m → job_name words ≡ Some n → n ≡ m
 same_name words m n h k = let both : Some n ≡ Some m = sym k ∙ h in cc
 
--- the sum of a source that is ready is the sum that was read
-same_sum : (words : List (List ℕ)) (told : Option Files) (calm : Bool) (room : Option ℕ) (e f : Sum) (source : List ℕ) → IsReady words told calm room e → HasRead mode.Run words told source → Says source f → f ≡ e
-same_sum words told calm room e f source ready read says =
+-- the bytes that were read are those of a source that is ready
+ready_bytes : (words : List (List ℕ)) (told : Option Files) (calm : Bool) (room : Option ℕ) (source : List ℕ) (ready : IsReady words told calm room) → HasRead mode.Run words told source → ready.source ≡ source
+ready_bytes words told calm room source ready read =
     let name : read.name ≡ ready.read.name = same_name words ready.read.name read.name ready.read.job read.job in
-    let bytes : source ≡ ready.source = read_once told 1048577 ready.read.name source ready.source ready.has (subst (λ (n : List ℕ). Reads told n 1048577 source) name read.read) ready.read.read in
-    says_once ready.source f e (subst (λ (b : List ℕ). Says b f) bytes says) ready.says
+    read_once told 1048577 ready.read.name ready.source source ready.has ready.read.read (subst (λ (n : List ℕ). Reads told n 1048577 source) name read.read)
 
 -- ---- the words are of one mode
 
@@ -69,115 +80,274 @@ same_class words told calm room c d ready is =
     let bytes : is.source ≡ ready.source = read_once told 16777217 ready.read.name is.source ready.source ready.has (subst (λ (n : List ℕ). Reads told n 16777217 is.source) name is.read.read) ready.read.read in
     is.only c (subst (λ (b : List ℕ). ClassBytes c b) (sym bytes) ready.bytes)
 
+-- ---- what a machine's answer says, by its status
+
+module _ (words : List (List ℕ)) (told : Option Files) (p : Program) (is : IsSource words told p) (m : Running) (files : List FileOut) (before now : Option (List ℕ)) (room : Option ℕ) where
+  abbrev So : End → Type 0
+  So end = RanSo p end m files before now room
+
+  finished : (end : End) → So end → status_of_end end ≡ 0 → Finished words told seen.normal before now
+  finished why.Ended s h = record { program = p; is = is; main = s.main; is_main = s.is_main; ends = s.shows }
+  finished (why.Thrown r) s h = absurd (cc)
+  finished why.Steps s h = absurd (cc)
+  finished (why.HeapFull need) s h = absurd (cc)
+  finished why.Frames s h = absurd (cc)
+  finished why.SinkFault s h = absurd (cc)
+  finished (why.Stuck place) s h = absurd (cc)
+
+  thrown : (end : End) → So end → status_of_end end ≡ 7 → (class : Name) × (message : Option (List ℕ)) × Finished words told (seen.thrown class message) before now
+  thrown why.Ended s h = absurd (cc)
+  thrown (why.Thrown r) s h = (_, _, record { program = p; is = is; main = s.main; is_main = s.is_main; ends = s.shows })
+  thrown why.Steps s h = absurd (cc)
+  thrown (why.HeapFull need) s h = absurd (cc)
+  thrown why.Frames s h = absurd (cc)
+  thrown why.SinkFault s h = absurd (cc)
+  thrown (why.Stuck place) s h = absurd (cc)
+
+  spent : (end : End) → So end → status_of_end end ≡ 8 → (m.done ≡ 50000000) × Stopped words told m.done before now
+  spent why.Ended s h = absurd (cc)
+  spent (why.Thrown r) s h = absurd (cc)
+  spent why.Steps s h = (s.shows.0, record { program = p; is = is; main = s.main; is_main = s.is_main; goes = s.shows.1 })
+  spent (why.HeapFull need) s h = absurd (cc)
+  spent why.Frames s h = absurd (cc)
+  spent why.SinkFault s h = absurd (cc)
+  spent (why.Stuck place) s h = absurd (cc)
+
+  heap : (end : End) → So end → status_of_end end ≡ 9 → Stopped words told m.done before now
+  heap why.Ended s h = absurd (cc)
+  heap (why.Thrown r) s h = absurd (cc)
+  heap why.Steps s h = absurd (cc)
+  heap (why.HeapFull need) s h = record { program = p; is = is; main = s.main; is_main = s.is_main; goes = s.shows }
+  heap why.Frames s h = absurd (cc)
+  heap why.SinkFault s h = absurd (cc)
+  heap (why.Stuck place) s h = absurd (cc)
+
+  frames : (end : End) → So end → status_of_end end ≡ 10 → Stopped words told m.done before now
+  frames why.Ended s h = absurd (cc)
+  frames (why.Thrown r) s h = absurd (cc)
+  frames why.Steps s h = absurd (cc)
+  frames (why.HeapFull need) s h = absurd (cc)
+  frames why.Frames s h = record { program = p; is = is; main = s.main; is_main = s.is_main; goes = s.shows }
+  frames why.SinkFault s h = absurd (cc)
+  frames (why.Stuck place) s h = absurd (cc)
+
+  cut : (end : End) → So end → status_of_end end ≡ 4 → CutOff words told before now
+  cut why.Ended s h = absurd (cc)
+  cut (why.Thrown r) s h = absurd (cc)
+  cut why.Steps s h = absurd (cc)
+  cut (why.HeapFull need) s h = absurd (cc)
+  cut why.Frames s h = absurd (cc)
+  cut why.SinkFault s h = record { program = p; is = is; main = s.main; is_main = s.is_main; breaks = s.shows }
+  cut (why.Stuck place) s h = absurd (cc)
+
+  -- a class file that was run has a status of these
+  has_status : (end : End) → So end → has_run (status_of_end end) ≡ false → ⊥
+  has_status why.Ended s h = false≢true (sym h)
+  has_status (why.Thrown r) s h = false≢true (sym h)
+  has_status why.Steps s h = false≢true (sym h)
+  has_status (why.HeapFull need) s h = false≢true (sym h)
+  has_status why.Frames s h = false≢true (sym h)
+  has_status why.SinkFault s h = false≢true (sym h)
+  has_status (why.Stuck place) s h = s.shows
+
+-- the statuses of a machine's answers
+abbrev is_end : ℕ → Bool
+is_end s = nat_eq s 0 || nat_eq s 4 || nat_eq s 7 || nat_eq s 8 || nat_eq s 9 || nat_eq s 10 || nat_eq s 11
+
+ends_with : (end : End) → is_end (status_of_end end) ≡ true
+ends_with why.Ended = refl
+ends_with (why.Thrown r) = refl
+ends_with why.Steps = refl
+ends_with (why.HeapFull need) = refl
+ends_with why.Frames = refl
+ends_with why.SinkFault = refl
+ends_with (why.Stuck place) = refl
+
+not_end : (end : End) (n : ℕ) → is_end n ≡ false → status_of_end end ≡ n → ⊥
+not_end end n f h = false≢true (sym f ∙ sym (ap is_end h) ∙ ends_with end)
+
+is_fault : (end : End) → status_of_end end ≡ 4 → end ≡ why.SinkFault
+is_fault why.Ended h = absurd (cc)
+is_fault (why.Thrown r) h = absurd (cc)
+is_fault why.Steps h = absurd (cc)
+is_fault (why.HeapFull need) h = absurd (cc)
+is_fault why.Frames h = absurd (cc)
+is_fault why.SinkFault h = refl
+is_fault (why.Stuck place) h = absurd (cc)
+
 module _ (e : Edge) where
-  pub run_is : (a : Answer) → Comes e a → IsMode e.words mode.Run → number_of (status_of a) ≡ 0 → Executed e.words e.told (files_of a) (steps_of a) e.taken_before e.taken_after
-  run_is (Done files steps) c m h = c
-  run_is Shown c m h = absurd (not_run e.words m c.is.read.is_mode)
-  run_is Words c m h = absurd (cc)
-  run_is ReadFault c m h = absurd (cc)
-  run_is (WriteFault files steps) c m h = absurd (cc)
-  run_is ShowFault c m h = absurd (cc)
-  run_is (BadClass r) c m h = absurd (cc)
-  run_is NoMemory c m h = absurd (cc)
-  run_is NotBuilt c m h = absurd (cc)
+  abbrev Made : ℕ → List FileOut → ℕ → Type 0
+  Made status files steps = Executed e.words e.told status files steps e.taken_before e.taken_after e.room
 
-  pub headline_is : (a : Answer) → Comes e a → IsMode e.words mode.Run → number_of (status_of a) ≡ 0 → PrintsValue e.words e.told e.taken_before e.taken_after
-  headline_is a c m h =
-      let x = run_is a c m h in
-      record { source = x.compiled.source; read = x.compiled.read; sum = x.compiled.sum; says = x.compiled.says; only = (λ f says. says_once x.compiled.source f x.compiled.sum says x.compiled.says); put = x.put ∙ ap (append_known e.taken_before) x.value }
+  pub headline_is : (a : Answer) → Comes e a → IsMode e.words mode.Run → IsTrue (has_run (number_of a)) → Made (number_of a) (files_of a) (steps_of a)
+  headline_is (Ran r) c m h = record { program = c.program; is = c.is; end = r.end; machine = r.machine; so = c.so; status_is = refl; rows = refl }
+  headline_is Shown c m h = absurd (not_run e.words m c.is.read.is_mode)
+  headline_is Words c m h = absurd (false≢true h)
+  headline_is ReadFault c m h = absurd (false≢true h)
+  headline_is ShowFault c m h = absurd (not_run e.words m c.cut.is.read.is_mode)
+  headline_is (BadClass r) c m h = absurd (false≢true h)
+  headline_is (TooLarge x) c m h = absurd (false≢true h)
+  headline_is NoMemory c m h = absurd (false≢true h)
+  headline_is NotBuilt c m h = absurd (false≢true h)
 
-  words_to : (a : Answer) → Comes e a → number_of (status_of a) ≡ 2 → IsNone (job_name e.words)
-  words_to (Done files steps) c h = absurd (cc)
+  pub finished_is : (a : Answer) → Comes e a → IsMode e.words mode.Run → number_of a ≡ 0 → Finished e.words e.told seen.normal e.taken_before e.taken_after
+  finished_is (Ran r) c m h = finished e.words e.told c.program c.is r.machine r.files e.taken_before e.taken_after e.room r.end c.so h
+  finished_is Shown c m h = absurd (not_run e.words m c.is.read.is_mode)
+  finished_is Words c m h = absurd (cc)
+  finished_is ReadFault c m h = absurd (cc)
+  finished_is ShowFault c m h = absurd (cc)
+  finished_is (BadClass r) c m h = absurd (cc)
+  finished_is (TooLarge x) c m h = absurd (cc)
+  finished_is NoMemory c m h = absurd (cc)
+  finished_is NotBuilt c m h = absurd (cc)
+
+  pub thrown_is : (a : Answer) → Comes e a → number_of a ≡ 7 → (class : Name) × (message : Option (List ℕ)) × Finished e.words e.told (seen.thrown class message) e.taken_before e.taken_after
+  thrown_is (Ran r) c h = thrown e.words e.told c.program c.is r.machine r.files e.taken_before e.taken_after e.room r.end c.so h
+  thrown_is Shown c h = absurd (cc)
+  thrown_is Words c h = absurd (cc)
+  thrown_is ReadFault c h = absurd (cc)
+  thrown_is ShowFault c h = absurd (cc)
+  thrown_is (BadClass r) c h = absurd (cc)
+  thrown_is (TooLarge x) c h = absurd (cc)
+  thrown_is NoMemory c h = absurd (cc)
+  thrown_is NotBuilt c h = absurd (cc)
+
+  pub spent_is : (a : Answer) → Comes e a → number_of a ≡ 8 → (steps_of a ≡ 50000000) × Stopped e.words e.told (steps_of a) e.taken_before e.taken_after
+  spent_is (Ran r) c h = spent e.words e.told c.program c.is r.machine r.files e.taken_before e.taken_after e.room r.end c.so h
+  spent_is Shown c h = absurd (cc)
+  spent_is Words c h = absurd (cc)
+  spent_is ReadFault c h = absurd (cc)
+  spent_is ShowFault c h = absurd (cc)
+  spent_is (BadClass r) c h = absurd (cc)
+  spent_is (TooLarge x) c h = absurd (cc)
+  spent_is NoMemory c h = absurd (cc)
+  spent_is NotBuilt c h = absurd (cc)
+
+  pub heap_is : (a : Answer) → Comes e a → number_of a ≡ 9 → Stopped e.words e.told (steps_of a) e.taken_before e.taken_after
+  heap_is (Ran r) c h = heap e.words e.told c.program c.is r.machine r.files e.taken_before e.taken_after e.room r.end c.so h
+  heap_is Shown c h = absurd (cc)
+  heap_is Words c h = absurd (cc)
+  heap_is ReadFault c h = absurd (cc)
+  heap_is ShowFault c h = absurd (cc)
+  heap_is (BadClass r) c h = absurd (cc)
+  heap_is (TooLarge x) c h = absurd (cc)
+  heap_is NoMemory c h = absurd (cc)
+  heap_is NotBuilt c h = absurd (cc)
+
+  pub frames_are : (a : Answer) → Comes e a → number_of a ≡ 10 → Stopped e.words e.told (steps_of a) e.taken_before e.taken_after
+  frames_are (Ran r) c h = frames e.words e.told c.program c.is r.machine r.files e.taken_before e.taken_after e.room r.end c.so h
+  frames_are Shown c h = absurd (cc)
+  frames_are Words c h = absurd (cc)
+  frames_are ReadFault c h = absurd (cc)
+  frames_are ShowFault c h = absurd (cc)
+  frames_are (BadClass r) c h = absurd (cc)
+  frames_are (TooLarge x) c h = absurd (cc)
+  frames_are NoMemory c h = absurd (cc)
+  frames_are NotBuilt c h = absurd (cc)
+
+  pub large_is : (a : Answer) → Comes e a → number_of a ≡ 6 → (x : Excess) × IsTooLarge e.words e.told x
+  large_is (Ran r) c h = absurd (not_end r.end 6 refl h)
+  large_is Shown c h = absurd (cc)
+  large_is Words c h = absurd (cc)
+  large_is ReadFault c h = absurd (cc)
+  large_is ShowFault c h = absurd (cc)
+  large_is (BadClass r) c h = absurd (cc)
+  large_is (TooLarge x) c h = (x, c.0)
+  large_is NoMemory c h = absurd (cc)
+  large_is NotBuilt c h = absurd (cc)
+
+  words_to : (a : Answer) → Comes e a → number_of a ≡ 2 → IsNone (job_name e.words)
+  words_to (Ran r) c h = absurd (not_end r.end 2 refl h)
   words_to Shown c h = absurd (cc)
   words_to Words c h = subst (λ (o : Option (List ℕ)). IsNone o) (sym c.0) refl
   words_to ReadFault c h = absurd (cc)
-  words_to (WriteFault files steps) c h = absurd (cc)
   words_to ShowFault c h = absurd (cc)
   words_to (BadClass r) c h = absurd (cc)
+  words_to (TooLarge x) c h = absurd (cc)
   words_to NoMemory c h = absurd (cc)
   words_to NotBuilt c h = absurd (cc)
 
-  words_from : (a : Answer) → Comes e a → IsNone (job_name e.words) → number_of (status_of a) ≡ 2
-  words_from (Done files steps) c h = absurd (some_not_none (job_name e.words) c.compiled.read.name c.compiled.read.job h)
+  words_from : (a : Answer) → Comes e a → IsNone (job_name e.words) → number_of a ≡ 2
+  words_from (Ran r) c h = absurd (some_not_none (job_name e.words) c.is.read.name c.is.read.job h)
   words_from Shown c h = absurd (some_not_none (job_name e.words) c.is.read.name c.is.read.job h)
   words_from Words c h = refl
   words_from ReadFault c h = absurd (some_not_none (job_name e.words) c.0.name c.0.job h)
-  words_from (WriteFault files steps) c h = absurd (some_not_none (job_name e.words) c.cut.compiled.read.name c.cut.compiled.read.job h)
   words_from ShowFault c h = absurd (some_not_none (job_name e.words) c.cut.is.read.name c.cut.is.read.job h)
   words_from (BadClass r) c h = absurd (some_not_none (job_name e.words) c.0.read.name c.0.read.job h)
+  words_from (TooLarge x) c h = absurd (some_not_none (job_name e.words) c.0.is.read.name c.0.is.read.job h)
   words_from NoMemory c h = absurd (not_both (job_name e.words) c.0 h)
   words_from NotBuilt c h = absurd (some_not_none (job_name e.words) c.0.read.name c.0.read.job h)
 
-  pub words_are : (a : Answer) → Comes e a → (number_of (status_of a) ≡ 2) ↔ IsNone (job_name e.words)
+  pub words_are : (a : Answer) → Comes e a → (number_of a ≡ 2) ↔ IsNone (job_name e.words)
   words_are a c = (words_to a c, words_from a c)
 
-  pub read_is : (a : Answer) → Comes e a → number_of (status_of a) ≡ 3 → Rose e.store_before e.store_after
-  read_is (Done files steps) c h = absurd (cc)
+  pub read_is : (a : Answer) → Comes e a → number_of a ≡ 3 → Rose e.store_before e.store_after
+  read_is (Ran r) c h = absurd (not_end r.end 3 refl h)
   read_is Shown c h = absurd (cc)
   read_is Words c h = absurd (cc)
   read_is ReadFault c h = c.0.rose
-  read_is (WriteFault files steps) c h = absurd (cc)
   read_is ShowFault c h = absurd (cc)
   read_is (BadClass r) c h = absurd (cc)
+  read_is (TooLarge x) c h = absurd (cc)
   read_is NoMemory c h = absurd (cc)
   read_is NotBuilt c h = absurd (cc)
 
-  not_three : (a : Answer) → (number_of (status_of a) ≡ 3 → ⊥) → IfSome (job_name e.words) (λ name. HasName e.told name → number_of (status_of a) ≢ 3)
-  not_three a f = each (job_name e.words) (λ name. HasName e.told name → number_of (status_of a) ≢ 3) (λ name has. f)
+  not_three : (a : Answer) → (number_of a ≡ 3 → ⊥) → IfSome (job_name e.words) (λ name. HasName e.told name → number_of a ≢ 3)
+  not_three a f = each (job_name e.words) (λ name. HasName e.told name → number_of a ≢ 3) (λ name has. f)
 
-  pub has_is : (a : Answer) → Comes e a → IsTrue e.is_calm → IfSome (job_name e.words) (λ name. HasName e.told name → number_of (status_of a) ≢ 3)
-  has_is (Done files steps) c calm = not_three (Done files steps) (λ h. cc)
+  pub has_is : (a : Answer) → Comes e a → IsTrue e.is_calm → IfSome (job_name e.words) (λ name. HasName e.told name → number_of a ≢ 3)
+  has_is (Ran r) c calm = not_three (Ran r) (not_end r.end 3 refl)
   has_is Shown c calm = not_three Shown (λ h. cc)
   has_is Words c calm = not_three Words (λ h. cc)
   has_is ReadFault c calm =
-      subst (λ (o : Option (List ℕ)). IfSome o (λ name. HasName e.told name → number_of (status_of ReadFault) ≢ 3)) (sym c.0.job) (λ has h. c.0.not_calm calm has)
-  has_is (WriteFault files steps) c calm = not_three (WriteFault files steps) (λ h. cc)
+      subst (λ (o : Option (List ℕ)). IfSome o (λ name. HasName e.told name → number_of ReadFault ≢ 3)) (sym c.0.job) (λ has h. c.0.not_calm calm has)
   has_is ShowFault c calm = not_three ShowFault (λ h. cc)
   has_is (BadClass r) c calm = not_three (BadClass r) (λ h. cc)
+  has_is (TooLarge x) c calm = not_three (TooLarge x) (λ h. cc)
   has_is NoMemory c calm = not_three NoMemory (λ h. cc)
   has_is NotBuilt c calm = not_three NotBuilt (λ h. cc)
 
-  pub write_is : (a : Answer) → Comes e a → number_of (status_of a) ≡ 4 → Rose e.out_before e.out_after
-  write_is (Done files steps) c h = absurd (cc)
+  pub write_is : (a : Answer) → Comes e a → number_of a ≡ 4 → Rose e.out_before e.out_after
+  write_is (Ran r) c h = c.cause (is_fault r.end h)
   write_is Shown c h = absurd (cc)
   write_is Words c h = absurd (cc)
   write_is ReadFault c h = absurd (cc)
-  write_is (WriteFault files steps) c h = c.rose
   write_is ShowFault c h = c.rose
   write_is (BadClass r) c h = absurd (cc)
+  write_is (TooLarge x) c h = absurd (cc)
   write_is NoMemory c h = absurd (cc)
   write_is NotBuilt c h = absurd (cc)
 
-  pub cut_is : (a : Answer) → Comes e a → IsMode e.words mode.Run → number_of (status_of a) ≡ 4 → CutOff e.words e.told (files_of a) (steps_of a) e.taken_before e.taken_after
-  cut_is (Done files steps) c m h = absurd (cc)
+  pub cut_is : (a : Answer) → Comes e a → IsMode e.words mode.Run → number_of a ≡ 4 → CutOff e.words e.told e.taken_before e.taken_after
+  cut_is (Ran r) c m h = cut e.words e.told c.program c.is r.machine r.files e.taken_before e.taken_after e.room r.end c.so h
   cut_is Shown c m h = absurd (cc)
   cut_is Words c m h = absurd (cc)
   cut_is ReadFault c m h = absurd (cc)
-  cut_is (WriteFault files steps) c m h = c.cut
   cut_is ShowFault c m h = absurd (not_run e.words m c.cut.is.read.is_mode)
   cut_is (BadClass r) c m h = absurd (cc)
+  cut_is (TooLarge x) c m h = absurd (cc)
   cut_is NoMemory c m h = absurd (cc)
   cut_is NotBuilt c m h = absurd (cc)
 
-  pub cut_text_is : (a : Answer) → Comes e a → IsMode e.words mode.Dis → number_of (status_of a) ≡ 4 → show.ShownInPart e.words e.told e.taken_before e.taken_after
-  cut_text_is (Done files steps) c m h = absurd (cc)
+  pub cut_text_is : (a : Answer) → Comes e a → IsMode e.words mode.Dis → number_of a ≡ 4 → show.ShownInPart e.words e.told e.taken_before e.taken_after
+  cut_text_is (Ran r) c m h = absurd (not_run e.words c.is.read.is_mode m)
   cut_text_is Shown c m h = absurd (cc)
   cut_text_is Words c m h = absurd (cc)
   cut_text_is ReadFault c m h = absurd (cc)
-  cut_text_is (WriteFault files steps) c m h = absurd (not_run e.words c.cut.compiled.read.is_mode m)
   cut_text_is ShowFault c m h = c.cut
   cut_text_is (BadClass r) c m h = absurd (cc)
+  cut_text_is (TooLarge x) c m h = absurd (cc)
   cut_text_is NoMemory c m h = absurd (cc)
   cut_text_is NotBuilt c m h = absurd (cc)
 
-  pub shown_is : (a : Answer) → Comes e a → IsMode e.words mode.Dis → number_of (status_of a) ≡ 0 → show.Shown e.words e.told e.taken_before e.taken_after
-  shown_is (Done files steps) c m h = absurd (not_run e.words c.compiled.read.is_mode m)
+  pub shown_is : (a : Answer) → Comes e a → IsMode e.words mode.Dis → number_of a ≡ 0 → show.Shown e.words e.told e.taken_before e.taken_after
+  shown_is (Ran r) c m h = absurd (not_run e.words c.is.read.is_mode m)
   shown_is Shown c m h = c
   shown_is Words c m h = absurd (cc)
   shown_is ReadFault c m h = absurd (cc)
-  shown_is (WriteFault files steps) c m h = absurd (cc)
   shown_is ShowFault c m h = absurd (cc)
   shown_is (BadClass r) c m h = absurd (cc)
+  shown_is (TooLarge x) c m h = absurd (cc)
   shown_is NoMemory c m h = absurd (cc)
   shown_is NotBuilt c m h = absurd (cc)
 
@@ -189,37 +359,36 @@ module _ (e : Edge) where
   is_refused None r n h e = absurd (cc)
   is_refused (Some q) r n h e = ((λ k. refl), (λ k. e))
 
-  pub bad_class_is : (a : Answer) → Comes e a → IsMode e.words mode.Dis → IsTrue (show.is_judged_class (number_of (status_of a))) → show.JudgedClass e.words e.told (number_of (status_of a))
-  bad_class_is (Done files steps) c m h = absurd (not_run e.words c.compiled.read.is_mode m)
+  pub bad_class_is : (a : Answer) → Comes e a → IsMode e.words mode.Dis → IsTrue (show.is_judged_class (number_of a)) → show.JudgedClass e.words e.told (number_of a)
+  bad_class_is (Ran r) c m h = absurd (not_run e.words c.is.read.is_mode m)
   bad_class_is Shown c m h = record { source = c.is.source; read = c.is.read; exact = nothing_refused _ 0 c.is.taken (λ k. cc) }
   bad_class_is Words c m h = absurd (false≢true h)
   bad_class_is ReadFault c m h = absurd (false≢true h)
-  bad_class_is (WriteFault files steps) c m h = absurd (not_run e.words c.cut.compiled.read.is_mode m)
   bad_class_is ShowFault c m h = record { source = c.cut.is.source; read = c.cut.is.read; exact = nothing_refused _ 4 c.cut.is.taken (λ k. cc) }
   bad_class_is (BadClass r) c m h = record { source = c.0.source; read = c.0.read; exact = is_refused _ r 11 c.0.refused refl }
+  bad_class_is (TooLarge x) c m h = absurd (false≢true h)
   bad_class_is NoMemory c m h = absurd (false≢true h)
   bad_class_is NotBuilt c m h = absurd (false≢true h)
 
-  pub not_built_is : (a : Answer) → Comes e a → IsMode e.words mode.Run → IsTrue (is_judged (number_of (status_of a))) → Judged e.words e.told (number_of (status_of a))
-  not_built_is (Done files steps) c m h = record { source = c.compiled.source; read = c.compiled.read; exact = ((λ k. absurd (cc)), (λ none. absurd (none c.compiled.sum c.compiled.says))) }
+  pub not_built_is : (a : Answer) → Comes e a → IsMode e.words mode.Run → IsTrue (is_judged (number_of a)) → Judged e.words e.told (number_of a)
+  not_built_is (Ran r) c m h = record { source = c.is.source; read = c.is.read; exact = ((λ k. absurd (not_end r.end 14 refl k)), (λ none. absurd (none c.program c.is.says))) }
   not_built_is Shown c m h = absurd (not_run e.words m c.is.read.is_mode)
   not_built_is Words c m h = absurd (false≢true h)
   not_built_is ReadFault c m h = absurd (false≢true h)
-  not_built_is (WriteFault files steps) c m h =
-      record { source = c.cut.compiled.source; read = c.cut.compiled.read; exact = ((λ k. absurd (cc)), (λ none. absurd (none c.cut.compiled.sum c.cut.compiled.says))) }
   not_built_is ShowFault c m h = absurd (not_run e.words m c.cut.is.read.is_mode)
   not_built_is (BadClass r) c m h = absurd (false≢true h)
+  not_built_is (TooLarge x) c m h = record { source = c.0.is.source; read = c.0.is.read; exact = ((λ k. absurd (cc)), (λ none. absurd (none c.0.program c.0.is.says))) }
   not_built_is NoMemory c m h = absurd (false≢true h)
   not_built_is NotBuilt c m h = record { source = c.0.source; read = c.0.read; exact = ((λ k. c.0.none), (λ none. refl)) }
 
-  pub out_is : (a : Answer) → Comes e a → has_run (number_of (status_of a)) ≡ false → e.taken_after ≡ e.taken_before
-  out_is (Done files steps) c h = absurd (false≢true (sym h))
+  pub out_is : (a : Answer) → Comes e a → has_run (number_of a) ≡ false → e.taken_after ≡ e.taken_before
+  out_is (Ran r) c h = absurd (has_status e.words e.told c.program c.is r.machine r.files e.taken_before e.taken_after e.room r.end c.so h)
   out_is Shown c h = absurd (false≢true (sym h))
   out_is Words c h = c.1
   out_is ReadFault c h = c.1
-  out_is (WriteFault files steps) c h = absurd (false≢true (sym h))
   out_is ShowFault c h = absurd (false≢true (sym h))
   out_is (BadClass r) c h = c.1
+  out_is (TooLarge x) c h = c.1
   out_is NoMemory c h = c.1
   out_is NotBuilt c h = c.1
 
@@ -227,22 +396,38 @@ module _ (e : Edge) where
   no_room_is None left n h le f = cc
   no_room_is (Some r) left n h le f = let same : left ≡ r = cc in f (subst (λ (k : ℕ). n ≤ k) same le)
 
-  pub complete_is : (a : Answer) → Comes e a → (sum : Sum) → IsReady e.words e.told e.is_calm e.room sum → (number_of (status_of a) ≡ 0) ⊎ (number_of (status_of a) ≡ 12)
-  complete_is (Done files steps) c sum ready = inl refl
-  complete_is Shown c sum ready = inl refl
-  complete_is Words c sum ready = absurd (let both : None ≡ Some ready.read.name = sym c.0 ∙ ready.read.job in cc)
-  complete_is ReadFault c sum ready =
-      absurd (c.0.not_calm ready.calm (subst (HasName e.told) (same_name e.words c.0.name ready.read.name c.0.job ready.read.job) ready.has))
-  complete_is (WriteFault files steps) c sum ready =
-      let same = same_sum e.words e.told e.is_calm e.room sum c.cut.compiled.sum c.cut.compiled.source ready c.cut.compiled.read c.cut.compiled.says in
-      absurd (no_room_is e.room ready.left (length (printed_line c.cut.compiled.sum)) ready.room_is (subst (λ (s : Sum). length (printed_line s) ≤ ready.left) (sym same) ready.enough) c.no_room)
-  complete_is ShowFault c sum ready = absurd (not_run e.words ready.read.is_mode c.cut.is.read.is_mode)
-  complete_is (BadClass r) c sum ready = absurd (not_run e.words ready.read.is_mode c.0.read.is_mode)
-  complete_is NoMemory c sum ready = inr refl
-  complete_is NotBuilt c sum ready =
-      let name = same_name e.words ready.read.name c.0.read.name ready.read.job c.0.read.job in
-      let bytes = read_once e.told 1048577 ready.read.name c.0.source ready.source ready.has (subst (λ (n : List ℕ). Reads e.told n 1048577 c.0.source) name c.0.read.read) ready.read.read in
-      absurd (c.0.none sum (subst (λ (b : List ℕ). Says b sum) (sym bytes) ready.says))
+  module _ (ready : IsReady e.words e.told e.is_calm e.room) where
+    -- the program of the source that was read is that of the source that is ready
+    same_program : (p : Program) → IsSource e.words e.told p → ready.program ≡ p
+    same_program p is = is.only ready.program (subst (λ (b : List ℕ). SaysProgram b ready.program) (ready_bytes e.words e.told e.is_calm e.room is.source ready is.read) ready.says)
+
+    same_made : (p : Program) (c : ClassFile) → IsSource e.words e.told p → file_of_program p ≡ Some (Ok c) → ready.class ≡ c
+    same_made p c is made =
+        let both : Some (Ok ready.class) ≡ Some (Ok c) = sym ready.made ∙ ap file_of_program (same_program p is) ∙ made in cc
+
+    over_is : (p : Program) (end : End) (m : Running) (files : List FileOut) → IsSource e.words e.told p → RanSo p end m files e.taken_before e.taken_after e.room → (status_of_end end ≡ 0) ⊎ (status_of_end end ≡ 7)
+    over_is p end m files is s =
+        let same = same_made p s.class is s.compiled.made in
+        over_so s.class ready.rows ready.within ready.halt ready.state ready.out (subst (λ (c : ClassFile). limited_course c ready.rows ≡ halted ready.halt ready.state ready.out) same ready.ends) ready.over ready.left ready.enough end m e.taken_before e.taken_after e.room ready.room_is s.ran
+
+    one_of : (n : ℕ) → (n ≡ 0) ⊎ (n ≡ 7) → (n ≡ 0) ⊎ (n ≡ 7) ⊎ (n ≡ 12)
+    one_of n (inl h) = inl h
+    one_of n (inr h) = inr (inl h)
+
+    pub complete_is : (a : Answer) → Comes e a → (number_of a ≡ 0) ⊎ (number_of a ≡ 7) ⊎ (number_of a ≡ 12)
+    complete_is (Ran r) c = one_of (status_of_end r.end) (over_is c.program r.end r.machine r.files c.is c.so)
+    complete_is Shown c = inl refl
+    complete_is Words c = absurd (let both : None ≡ Some ready.read.name = sym c.0 ∙ ready.read.job in cc)
+    complete_is ReadFault c =
+        absurd (c.0.not_calm ready.calm (subst (HasName e.told) (same_name e.words c.0.name ready.read.name c.0.job ready.read.job) ready.has))
+    complete_is ShowFault c = absurd (not_run e.words ready.read.is_mode c.cut.is.read.is_mode)
+    complete_is (BadClass r) c = absurd (not_run e.words ready.read.is_mode c.0.read.is_mode)
+    complete_is (TooLarge x) c =
+        absurd (let made = sym ready.made ∙ ap file_of_program (same_program c.0.program c.0.is) ∙ c.0.excess.made in cc)
+    complete_is NoMemory c = inr (inr refl)
+    complete_is NotBuilt c =
+        let bytes = ready_bytes e.words e.told e.is_calm e.room c.0.source ready c.0.read in
+        absurd (c.0.none ready.program (subst (λ (b : List ℕ). SaysProgram b ready.program) bytes ready.says))
 
   -- the bytes of a class of a length that is taken aren't refused
   taken_class : (bytes : List ℕ) (c : ClassFile) (r : ClassRefusal) → length bytes ≤ show.most_class → ClassBytes c bytes → show.class_refusal bytes ≡ Some r → ⊥
@@ -252,13 +437,12 @@ module _ (e : Edge) where
       let none : show.class_refusal bytes ≡ None = rw (long, read) refl in
       let both : Some r ≡ None = sym refused ∙ none in cc
 
-  pub complete_text_is : (a : Answer) → Comes e a → (class : ClassFile) → show.IsReadyClass e.words e.told e.is_calm e.room class → (number_of (status_of a) ≡ 0) ⊎ (number_of (status_of a) ≡ 12)
-  complete_text_is (Done files steps) c class ready = inl refl
+  pub complete_text_is : (a : Answer) → Comes e a → (class : ClassFile) → show.IsReadyClass e.words e.told e.is_calm e.room class → (number_of a ≡ 0) ⊎ (number_of a ≡ 12)
+  complete_text_is (Ran r) c class ready = absurd (not_run e.words c.is.read.is_mode ready.read.is_mode)
   complete_text_is Shown c class ready = inl refl
   complete_text_is Words c class ready = absurd (let both : None ≡ Some ready.read.name = sym c.0 ∙ ready.read.job in cc)
   complete_text_is ReadFault c class ready =
       absurd (c.0.not_calm ready.calm (subst (HasName e.told) (same_name e.words c.0.name ready.read.name c.0.job ready.read.job) ready.has))
-  complete_text_is (WriteFault files steps) c class ready = absurd (not_run e.words c.cut.compiled.read.is_mode ready.read.is_mode)
   complete_text_is ShowFault c class ready =
       let same = same_class e.words e.told e.is_calm e.room class c.cut.made ready c.cut.is in
       absurd (no_room_is e.room ready.left (length (show.class_text c.cut.made)) ready.room_is (subst (λ (k : ClassFile). length (show.class_text k) ≤ ready.left) same ready.enough) c.no_room)
@@ -266,53 +450,42 @@ module _ (e : Edge) where
       let name = same_name e.words ready.read.name c.0.read.name ready.read.job c.0.read.job in
       let bytes = read_once e.told 16777217 ready.read.name c.0.source ready.source ready.has (subst (λ (n : List ℕ). Reads e.told n 16777217 c.0.source) name c.0.read.read) ready.read.read in
       absurd (taken_class ready.source class r ready.short ready.bytes (subst (λ (b : List ℕ). show.class_refusal b ≡ Some r) bytes c.0.refused))
+  complete_text_is (TooLarge x) c class ready = absurd (not_run e.words c.0.is.read.is_mode ready.read.is_mode)
   complete_text_is NoMemory c class ready = inr refl
   complete_text_is NotBuilt c class ready = absurd (not_run e.words c.0.read.is_mode ready.read.is_mode)
 
   -- a job that shows has neither files nor steps
   pub nothing_run_is : (a : Answer) → Comes e a → IsMode e.words mode.Dis → (files_of a ≡ []) × (steps_of a ≡ 0)
-  nothing_run_is (Done files steps) c m = absurd (not_run e.words c.compiled.read.is_mode m)
+  nothing_run_is (Ran r) c m = absurd (not_run e.words c.is.read.is_mode m)
   nothing_run_is Shown c m = (refl, refl)
   nothing_run_is Words c m = (refl, refl)
   nothing_run_is ReadFault c m = (refl, refl)
-  nothing_run_is (WriteFault files steps) c m = absurd (not_run e.words c.cut.compiled.read.is_mode m)
   nothing_run_is ShowFault c m = (refl, refl)
   nothing_run_is (BadClass r) c m = (refl, refl)
+  nothing_run_is (TooLarge x) c m = (refl, refl)
   nothing_run_is NoMemory c m = (refl, refl)
   nothing_run_is NotBuilt c m = (refl, refl)
 
-  -- the reason that the line tells
-  pub reason_is : (a : Answer) → Comes e a → IsReason e.words e.told (status_of a)
-  reason_is (Done files steps) c = tt
-  reason_is Shown c = tt
-  reason_is Words c = tt
-  reason_is ReadFault c = tt
-  reason_is (WriteFault files steps) c = tt
-  reason_is ShowFault c = tt
-  reason_is (BadClass r) c = c.0
-  reason_is NoMemory c = tt
-  reason_is NotBuilt c = tt
+  -- ---- files and steps
 
--- ---- files and steps
+  pub files_are : (a : Answer) → Comes e a → has_run (number_of a) ≡ false → files_of a ≡ []
+  files_are (Ran r) c h = absurd (has_status e.words e.told c.program c.is r.machine r.files e.taken_before e.taken_after e.room r.end c.so h)
+  files_are Shown c h = refl
+  files_are Words c h = refl
+  files_are ReadFault c h = refl
+  files_are ShowFault c h = refl
+  files_are (BadClass r) c h = refl
+  files_are (TooLarge x) c h = refl
+  files_are NoMemory c h = refl
+  files_are NotBuilt c h = refl
 
-pub files_are : (a : Answer) → has_run (number_of (status_of a)) ≡ false → files_of a ≡ []
-files_are (Done files steps) h = absurd (false≢true (sym h))
-files_are Shown h = absurd (false≢true (sym h))
-files_are Words h = refl
-files_are ReadFault h = refl
-files_are (WriteFault files steps) h = absurd (false≢true (sym h))
-files_are ShowFault h = absurd (false≢true (sym h))
-files_are (BadClass r) h = refl
-files_are NoMemory h = refl
-files_are NotBuilt h = refl
-
-pub steps_are : (a : Answer) → has_run (number_of (status_of a)) ≡ false → steps_of a ≡ 0
-steps_are (Done files steps) h = absurd (false≢true (sym h))
-steps_are Shown h = absurd (false≢true (sym h))
-steps_are Words h = refl
-steps_are ReadFault h = refl
-steps_are (WriteFault files steps) h = absurd (false≢true (sym h))
-steps_are ShowFault h = absurd (false≢true (sym h))
-steps_are (BadClass r) h = refl
-steps_are NoMemory h = refl
-steps_are NotBuilt h = refl
+  pub steps_are : (a : Answer) → Comes e a → has_run (number_of a) ≡ false → steps_of a ≡ 0
+  steps_are (Ran r) c h = absurd (has_status e.words e.told c.program c.is r.machine r.files e.taken_before e.taken_after e.room r.end c.so h)
+  steps_are Shown c h = refl
+  steps_are Words c h = refl
+  steps_are ReadFault c h = refl
+  steps_are ShowFault c h = refl
+  steps_are (BadClass r) c h = refl
+  steps_are (TooLarge x) c h = refl
+  steps_are NoMemory c h = refl
+  steps_are NotBuilt c h = refl

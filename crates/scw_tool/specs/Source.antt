@@ -1,139 +1,65 @@
--- The sources of this compiler, and what they mean: one object whose `main` prints one sum of products.
-use Rattle.std.specs.Prelude.{◌≡◌, ◌⊎◌, ℕ, ◌+◌, ◌^◌, Bool, true, false, ◌&&◌, nat_lt, nat_le, IsTrue, List, [], ◌∷◌, ◌++◌, length, codes}
-use Rattle.std.specs.List.{list_all}
-use Rattle.std.specs.Fmt.{decimal}
-use Rattle.scw_tool.specs.declared.tree.Arithmetic.{Arithmetic}
-use Rattle.scw_tool.specs.declared.tree.Arithmetic.TheVariants.{Add, Multiply}
-use Rattle.scw_tool.specs.declared.tree.Op.TheVariants.{Literal, Primitive, Static}
-use Rattle.scw_tool.specs.declared.tree.Literal.TheVariants.{Int, Text}
-use Rattle.scw_tool.specs.declared.tree.Primitive as primitive_type
-use Rattle.scw_tool.specs.declared.tree.Primitive.TheVariants as primitive
-use Rattle.scw_tool.specs.declared.tree.RunMethod.TheVariants.{Print}
-use Rattle.scw_tool.specs.Numbers.{computed, int_text}
-use Rattle.scw_tool.specs.Tree.{Tree, node, none, more}
+-- The source that a call with `run FILE` reads, and its program.
+use Rattle.std.specs.Prelude.{◌≡◌, ◌↔◌, ℕ, List, Option, Some, Result, Err, encode_utf8_all}
+use Rattle.std.specs.String.{string_bytes}
+use Rattle.scw_text.specs.declared.number.SymId.{SymId}
+use Rattle.scw_outside.specs.Content.{Files}
+use Rattle.scw_classfile.specs.declared.class_file.ClassFile.{ClassFile}
+use Rattle.scw_core.specs.Entry.{IsEntry, main_of}
+use Rattle.scw_core.specs.Program.{Program}
+use Rattle.scw_gen.specs.declared.fault.Large.{Large}
+use Rattle.scw_small.specs.Says.{SaysProgram}
+use Rattle.scw_back.specs.Back.{file_of_program}
+use Rattle.scw_back.specs.Same.{object_name}
+use Rattle.scw_tool.specs.declared.answer.Excess.{Excess}
+use Rattle.scw_tool.specs.declared.words.Mode.TheVariants.{Run}
+use Rattle.scw_tool.specs.Machine.{main_name}
+use Rattle.scw_tool.specs.Read.{HasRead}
 
--- ---- the text
+-- the file that the words name is a source of this program, and of no other
+pub record IsSource (words : List (List ℕ)) (told : Option Files) (p : Program) : Type 0 where
+  pub source : List ℕ
+  pub read : HasRead Run words told source
+  pub says : SaysProgram source p
+  pub only : (q : Program) → SaysProgram source q → q ≡ p
 
--- numbers joined by ` * `
-abbrev pub Product : Type 0
-Product = List ℕ
+-- the object `Main` of a program, which has a `main`
+pub record IsMain (p : Program) (o : SymId) : Type 0 where
+  pub entry : IsEntry p.table (main_of o)
+  pub named : object_name p o ≡ main_name
 
--- products joined by ` + `
-abbrev pub Sum : Type 0
-Sum = List Product
+abbrev pub HasMain : Program → Type 0
+HasMain p = (o : SymId) × IsMain p o
 
-abbrev pub more_factors : Product → List ℕ
-more_factors [] = []
-more_factors (n ∷ ns) = codes " * " ++ (decimal n ++ more_factors ns)
+-- the program has a class file, or is too large for one
+abbrev pub IsBuilt : Program → Type 0
+IsBuilt p = (r : Result ClassFile Large) × (file_of_program p ≡ Some r)
 
-abbrev pub product_text : Product → List ℕ
-product_text [] = []
-product_text (n ∷ ns) = decimal n ++ more_factors ns
+-- what of the program's class doesn't fit a class file
+pub record IsExcess (p : Program) (x : Excess) : Type 0 where
+  pub large : Large
+  pub made : file_of_program p ≡ Some (Err large)
+  pub class : string_bytes x.class ≡ encode_utf8_all large.class
+  pub kind : x.kind ≡ large.kind
+  pub number : x.number ≡ large.number
 
-abbrev pub more_terms : Sum → List ℕ
-more_terms [] = []
-more_terms (p ∷ ps) = codes " + " ++ (product_text p ++ more_terms ps)
+-- the file is a source whose class doesn't fit a class file, for this reason
+pub record IsTooLarge (words : List (List ℕ)) (told : Option Files) (x : Excess) : Type 0 where
+  pub program : Program
+  pub is : IsSource words told program
+  pub excess : IsExcess program x
 
-abbrev pub sum_text : Sum → List ℕ
-sum_text [] = []
-sum_text (p ∷ ps) = product_text p ++ more_terms ps
+-- the bytes are the source of no program
+abbrev pub SaysNothing : List ℕ → Type 0
+SaysNothing source = (p : Program) → SaysProgram source p → ⊥
 
-abbrev pub front : List ℕ
-front = codes "object Main { def main(args: Array[String]): Unit = println("
+-- the bytes read are no source
+pub record IsNoSource (words : List (List ℕ)) (told : Option Files) : Type 0 where
+  pub source : List ℕ
+  pub read : HasRead Run words told source
+  pub none : SaysNothing source
 
-abbrev pub back : List ℕ
-back = codes ") }"
-
-abbrev pub source_text : Sum → List ℕ
-source_text e = front ++ (sum_text e ++ back)
-
--- ---- what is allowed
-
-abbrev pub is_some_list : {A : Type 0} → List A → Bool
-is_some_list [] = false
-is_some_list (x ∷ xs) = true
-
--- a product has a number at least, and each number is at most 2147483647
-abbrev pub fits_product : Product → Bool
-fits_product ns = is_some_list ns && list_all (λ n. nat_lt n (2 ^ 31)) ns
-
-abbrev pub count_of : Sum → ℕ
-count_of [] = 0
-count_of (p ∷ ps) = length p + count_of ps
-
--- a sum has a product at least, and 100 numbers at most
-abbrev pub fits_sum : Sum → Bool
-fits_sum e = is_some_list e && (list_all fits_product e && nat_le (count_of e) 100)
-
--- the bytes are the source that prints this sum; one line end may stand at their end
-pub record Says (bytes : List ℕ) (e : Sum) : Type 0 where
-  pub fits : IsTrue (fits_sum e)
-  pub text : (bytes ≡ source_text e) ⊎ (bytes ≡ source_text e ++ codes "\n")
-
--- ---- the value, in the subject's words
-
-abbrev pub product_from : ℕ → Product → ℕ
-product_from a [] = a
-product_from a (n ∷ ns) = product_from (computed Multiply a n) ns
-
-abbrev pub product_value : Product → ℕ
-product_value [] = 0
-product_value (n ∷ ns) = product_from n ns
-
-abbrev pub sum_from : ℕ → Sum → ℕ
-sum_from a [] = a
-sum_from a (p ∷ ps) = sum_from (computed Add a (product_value p)) ps
-
--- the value: products first, from the left, each wrapped at 32 bits
-abbrev pub sum_value : Sum → ℕ
-sum_value [] = 0
-sum_value (p ∷ ps) = sum_from (product_value p) ps
-
--- the line that is printed
-abbrev pub printed_line : Sum → List ℕ
-printed_line e = int_text (sum_value e) ++ codes "\n"
-
--- ---- the tree
-
-abbrev pub literal_tree : ℕ → Tree
-literal_tree n = node (Literal (Int n)) none
-
-abbrev pub text_tree : List ℕ → Tree
-text_tree us = node (Literal (Text us)) none
-
-abbrev pub primitive_tree : primitive_type.Primitive → Tree → Tree → Tree
-primitive_tree o a b = node (Primitive o) (more a (more b none))
-
-abbrev pub arithmetic_tree : Arithmetic → Tree → Tree → Tree
-arithmetic_tree o a b = primitive_tree (primitive.Arithmetic o) a b
-
-abbrev pub joined_tree : Tree → Tree → Tree
-joined_tree a b = primitive_tree primitive.Concatenate a b
-
-abbrev pub call_print : Tree → Tree
-call_print t = node (Static Print) (more t none)
-
--- operators of one precedence associate to the left: SLS 6.12.3
-abbrev pub product_tree_from : Tree → Product → Tree
-product_tree_from t [] = t
-product_tree_from t (n ∷ ns) = product_tree_from (arithmetic_tree Multiply t (literal_tree n)) ns
-
-abbrev pub product_tree : Product → Tree
-product_tree [] = literal_tree 0
-product_tree (n ∷ ns) = product_tree_from (literal_tree n) ns
-
-abbrev pub sum_tree_from : Tree → Sum → Tree
-sum_tree_from t [] = t
-sum_tree_from t (p ∷ ps) = sum_tree_from (arithmetic_tree Add t (product_tree p)) ps
-
-abbrev pub sum_tree : Sum → Tree
-sum_tree [] = literal_tree 0
-sum_tree (p ∷ ps) = sum_tree_from (product_tree p) ps
-
--- `println(e)` is `Run.print("" + e + "\n")`
-abbrev pub print_tree : Tree → Tree
-print_tree t = call_print (joined_tree (joined_tree (text_tree []) t) (text_tree (codes "\n")))
-
--- the body of `main`
-abbrev pub main_tree : Sum → Tree
-main_tree e = print_tree (sum_tree e)
+-- whether the bytes read were a source was judged, and the status says it
+pub record Judged (words : List (List ℕ)) (told : Option Files) (s : ℕ) : Type 0 where
+  pub source : List ℕ
+  pub read : HasRead Run words told source
+  pub exact : (s ≡ 14) ↔ SaysNothing source

@@ -1,63 +1,60 @@
 -- The numbers with which the program ends, and what it says on its line for errors.
 use Rattle.std.specs.Prelude.{◌≡◌, ℕ, List, [], ◌++◌, Option, Some, None, codes, decimal}
 use Rattle.std.specs.Io.KnownBytes.{append_known}
-use Rattle.scw_outside.specs.Content.{Files}
+use Rattle.std.specs.String.{string_bytes}
 use Rattle.scw_classfile.specs.declared.class_file.FileOut.{FileOut}
 use Rattle.scw_classfile.specs.declared.fault.ClassRefusal.{ClassRefusal}
-use Rattle.scw_tool.specs.declared.answer.Status.{Status}
-use Rattle.scw_tool.specs.declared.answer.Status.TheVariants as status
+use Rattle.scw_gen.specs.declared.fault.LargeKind.{LargeKind}
+use Rattle.scw_gen.specs.declared.fault.LargeKind.TheVariants as kind
+use Rattle.scw_machine.specs.Run.{Running}
+use Rattle.scw_machine.specs.Tell.{told}
+use Rattle.scw_machine.specs.declared.end.End.{End}
+use Rattle.scw_machine.specs.declared.end.End.TheVariants as why
 use Rattle.scw_tool.specs.declared.answer.Answer.{Answer}
-use Rattle.scw_tool.specs.declared.answer.Answer.TheVariants.{Done, Shown, Words, ReadFault, WriteFault, ShowFault, BadClass, NoMemory, NotBuilt}
+use Rattle.scw_tool.specs.declared.answer.Answer.TheVariants.{Ran, Shown, Words, ReadFault, ShowFault, BadClass, TooLarge, NoMemory, NotBuilt}
+use Rattle.scw_tool.specs.declared.answer.Excess.{Excess}
+use Rattle.scw_tool.specs.Job.{Comes, Edge}
+use Rattle.scw_tool.specs.Machine.{status_of_end}
 use Rattle.scw_tool.specs.Rules.{rule_name}
-use Rattle.scw_tool.specs.Show.{IsNoClass}
 use Rattle.scw_tool.specs.Words.{job_file}
 
-abbrev pub number_of : Status → ℕ
-number_of status.Done = 0
-number_of status.Words = 2
-number_of status.ReadFault = 3
-number_of status.WriteFault = 4
-number_of (status.BadClass r) = 11
-number_of status.NoMemory = 12
-number_of status.NotBuilt = 14
+abbrev pub number_of : Answer → ℕ
+number_of (Ran r) = status_of_end r.end
+number_of Shown = 0
+number_of Words = 2
+number_of ReadFault = 3
+number_of ShowFault = 4
+number_of (BadClass r) = 11
+number_of (TooLarge x) = 6
+number_of NoMemory = 12
+number_of NotBuilt = 14
 
 -- a number with which the program ends
 pub record IsStatus (n : ℕ) : Type 0 where
-  pub status : Status
-  pub is : n ≡ number_of status
+  pub answer : Answer
+  pub is : n ≡ number_of answer
 
 -- ---- the parts of an answer
 
-abbrev pub status_of : Answer → Status
-status_of (Done files steps) = status.Done
-status_of Shown = status.Done
-status_of Words = status.Words
-status_of ReadFault = status.ReadFault
-status_of (WriteFault files steps) = status.WriteFault
-status_of ShowFault = status.WriteFault
-status_of (BadClass r) = status.BadClass r
-status_of NoMemory = status.NoMemory
-status_of NotBuilt = status.NotBuilt
-
 abbrev pub files_of : Answer → List FileOut
-files_of (Done files steps) = files
+files_of (Ran r) = r.files
 files_of Shown = []
 files_of Words = []
 files_of ReadFault = []
-files_of (WriteFault files steps) = files
 files_of ShowFault = []
 files_of (BadClass r) = []
+files_of (TooLarge x) = []
 files_of NoMemory = []
 files_of NotBuilt = []
 
 abbrev pub steps_of : Answer → ℕ
-steps_of (Done files steps) = steps
+steps_of (Ran r) = r.machine.done
 steps_of Shown = 0
 steps_of Words = 0
 steps_of ReadFault = 0
-steps_of (WriteFault files steps) = steps
 steps_of ShowFault = 0
 steps_of (BadClass r) = 0
+steps_of (TooLarge x) = 0
 steps_of NoMemory = 0
 steps_of NotBuilt = 0
 
@@ -70,6 +67,9 @@ shown_name None = []
 abbrev pub read_fault_line : List ℕ → List ℕ
 read_fault_line name = codes "cannot read " ++ (name ++ codes "\n")
 
+abbrev pub write_fault_line : List ℕ
+write_fault_line = codes "cannot write output\n"
+
 -- the rule, and how many bytes stand before the fault
 abbrev pub refusal_text : ClassRefusal → List ℕ
 refusal_text r = rule_name r.rule ++ (codes " at " ++ (decimal r.place ++ codes "\n"))
@@ -77,29 +77,48 @@ refusal_text r = rule_name r.rule ++ (codes " at " ++ (decimal r.place ++ codes 
 abbrev pub bad_class_line : List ℕ → ClassRefusal → List ℕ
 bad_class_line name r = (codes "bad class " ++ (name ++ codes ": ")) ++ refusal_text r
 
--- what a call with these words says when it ends so
-abbrev pub line_of : List (List ℕ) → Status → List ℕ
-line_of words status.Done = []
-line_of words status.Words = codes "usage: scw MODE [--main NAME] [--steps N] [--dir DIR] FILES\n"
-line_of words status.ReadFault = read_fault_line (shown_name (job_file words))
-line_of words status.WriteFault = codes "cannot write output\n"
-line_of words (status.BadClass r) = bad_class_line (shown_name (job_file words)) r
-line_of words status.NoMemory = codes "no memory\n"
-line_of words status.NotBuilt = codes "not built: source at 1:1\n"
+abbrev pub kind_name : LargeKind → List ℕ
+kind_name kind.Code = codes "Code"
+kind_name kind.Pool = codes "Pool"
+kind_name kind.Fields = codes "Fields"
+kind_name kind.Methods = codes "Methods"
+kind_name kind.Slots = codes "Slots"
+kind_name kind.Interfaces = codes "Interfaces"
+kind_name kind.Handlers = codes "Handlers"
+kind_name kind.Frames = codes "Frames"
+kind_name kind.Descriptor = codes "Descriptor"
 
--- where a class file is refused, it is so for the reason that is told
-abbrev pub IsReason : List (List ℕ) → Option Files → Status → Type 0
-IsReason words told status.Done = Unit {0}
-IsReason words told status.Words = Unit {0}
-IsReason words told status.ReadFault = Unit {0}
-IsReason words told status.WriteFault = Unit {0}
-IsReason words told (status.BadClass r) = IsNoClass words told r
-IsReason words told status.NoMemory = Unit {0}
-IsReason words told status.NotBuilt = Unit {0}
+-- the class, and which of its numbers doesn't fit
+abbrev pub too_large_line : Excess → List ℕ
+too_large_line x = (string_bytes x.class ++ (codes ": too large: " ++ kind_name x.kind)) ++ (codes " " ++ (decimal x.number ++ codes "\n"))
 
--- the line of the status with this number was taken, whole
-pub record SaysLine (words : List (List ℕ)) (told : Option Files) (n : ℕ) (before now : Option (List ℕ)) : Type 0 where
-  pub status : Status
-  pub reason : IsReason words told status
-  pub number : n ≡ number_of status
-  pub put : now ≡ append_known before (line_of words status)
+-- what is said of the machine when it ended so
+abbrev pub line_of_end : Running → End → List ℕ
+line_of_end m why.Ended = []
+line_of_end m (why.Thrown r) = told m.program m.state.heap.objects r.0
+line_of_end m why.Steps = codes "steps spent\n"
+line_of_end m (why.HeapFull need) = codes "heap full\n"
+line_of_end m why.Frames = codes "too many frames\n"
+line_of_end m why.SinkFault = write_fault_line
+line_of_end m (why.Stuck place) = []
+
+-- what a call with these words says when it comes to the answer
+abbrev pub line_of : List (List ℕ) → Answer → List ℕ
+line_of words (Ran r) = line_of_end r.machine r.end
+line_of words Shown = []
+line_of words Words = codes "usage: scw MODE [--main NAME] [--steps N] [--dir DIR] FILES\n"
+line_of words ReadFault = read_fault_line (shown_name (job_file words))
+line_of words ShowFault = write_fault_line
+line_of words (BadClass r) = bad_class_line (shown_name (job_file words)) r
+line_of words (TooLarge x) = too_large_line x
+line_of words NoMemory = codes "no memory\n"
+line_of words NotBuilt = codes "not built: source at 1:1\n"
+
+-- The call came to an answer that has this number, these files and steps, and its line was taken, whole.
+pub record SaysLine (e : Edge) (n : ℕ) (files : List FileOut) (steps : ℕ) (before now : Option (List ℕ)) : Type 0 where
+  pub answer : Answer
+  pub comes : Comes e answer
+  pub number : n ≡ number_of answer
+  pub files_are : files ≡ files_of answer
+  pub steps_are : steps ≡ steps_of answer
+  pub put : now ≡ append_known before (line_of e.words answer)

@@ -5,12 +5,14 @@ ghost use Rattle.std.specs.Io.KnownBytes.{append_known};
 ghost use Rattle.std.specs.Option.{option_map};
 ghost use Rattle.scw_outside.specs.Causes.{Rose};
 ghost use Rattle.scw_tool.specs.Rules.{rule_name};
-ghost use Rattle.scw_tool.specs.Status.{bad_class_line, line_of, read_fault_line, refusal_text, shown_name};
+ghost use Rattle.scw_tool.specs.Status.{bad_class_line, kind_name, line_of, line_of_end, read_fault_line, refusal_text, shown_name, too_large_line};
 ghost use Rattle.scw_tool.specs.Words.{job_file};
 
-use crate::answer::Status;
+use crate::answer::{Answer, Excess};
 use itoa::Buffer;
 use scw_classfile::ClassRefusal;
+use scw_gen::LargeKind;
+use scw_machine::{End, Machine};
 use scw_outside::{Sink, SinkFailed, put_all};
 
 /// The names of the rules that a class file can break, by their numbers.
@@ -78,6 +80,51 @@ fn put_bad_class<E: Sink>(err: &mut E, name: &str, refusal: ClassRefusal) -> Res
     put_refusal(err, refusal)
 }
 
+fn kind_name(kind: LargeKind) -> &'static [u8]
+    ensures { result.now ≡ kind_name kind }
+{
+    match kind {
+        LargeKind::Code => b"Code",
+        LargeKind::Pool => b"Pool",
+        LargeKind::Fields => b"Fields",
+        LargeKind::Methods => b"Methods",
+        LargeKind::Slots => b"Slots",
+        LargeKind::Interfaces => b"Interfaces",
+        LargeKind::Handlers => b"Handlers",
+        LargeKind::Frames => b"Frames",
+        LargeKind::Descriptor => b"Descriptor",
+    }
+}
+
+fn put_too_large<E: Sink>(err: &mut E, excess: &Excess) -> Result<(), SinkFailed>
+    ensures done { OnOk result (E.taken err.new ≡ append_known (E.taken err.old) (too_large_line excess.now)) }
+    ensures rose { OnErr result (Rose (E.fault_count err.old) (E.fault_count err.new)) }
+{
+    put_three(
+        err,
+        excess.class.as_bytes(),
+        b": too large: ",
+        kind_name(excess.kind),
+    )?;
+    let mut digits = Buffer::new();
+    put_three(err, b" ", digits.format(excess.number).as_bytes(), b"\n")
+}
+
+/// Puts what is said of a machine that ended so.
+fn put_end<E: Sink>(err: &mut E, machine: &Machine, end: End) -> Result<(), SinkFailed>
+    ensures done { OnOk result (E.taken err.new ≡ append_known (E.taken err.old) (line_of_end machine.now end)) }
+    ensures rose { OnErr result (Rose (E.fault_count err.old) (E.fault_count err.new)) }
+{
+    match end {
+        End::Ended | End::Stuck(_) => Ok(()),
+        End::Thrown(r) => machine.tell(r, err),
+        End::Steps => put_all(err, b"steps spent\n"),
+        End::HeapFull { .. } => put_all(err, b"heap full\n"),
+        End::Frames => put_all(err, b"too many frames\n"),
+        End::SinkFault => put_all(err, b"cannot write output\n"),
+    }
+}
+
 fn shown<'a>(name: Option<&'a str>) -> &'a str
     ensures { result.now ≡ shown_name (option_map (λ s. s.now) name.entry) }
 {
@@ -87,21 +134,23 @@ fn shown<'a>(name: Option<&'a str>) -> &'a str
     }
 }
 
-/// Puts the line of a status, where there is one. A failure is the sink's own.
-pub fn report<E: Sink>(err: &mut E, name: Option<&str>, status: Status) -> Result<(), SinkFailed>
-    ensures done { (words : List (List ℕ)) → option_map (λ s. s.now) name.entry ≡ job_file words → OnOk result (E.taken err.new ≡ append_known (E.taken err.old) (line_of words status)) }
+/// Puts the line of an answer, where there is one. A failure is the sink's own.
+pub fn report<E: Sink>(err: &mut E, name: Option<&str>, answer: &Answer) -> Result<(), SinkFailed>
+    ensures done { (words : List (List ℕ)) → option_map (λ s. s.now) name.entry ≡ job_file words → OnOk result (E.taken err.new ≡ append_known (E.taken err.old) (line_of words answer.now)) }
     ensures rose { OnErr result (Rose (E.fault_count err.old) (E.fault_count err.new)) }
 {
-    match status {
-        Status::Done => Ok(()),
-        Status::Words => put_all(
+    match answer {
+        Answer::Ran(run) => put_end(err, &run.machine, run.end),
+        Answer::Shown => Ok(()),
+        Answer::Words => put_all(
             err,
             b"usage: scw MODE [--main NAME] [--steps N] [--dir DIR] FILES\n",
         ),
-        Status::ReadFault => put_read_fault(err, shown(name)),
-        Status::WriteFault => put_all(err, b"cannot write output\n"),
-        Status::BadClass(refusal) => put_bad_class(err, shown(name), refusal),
-        Status::NoMemory => put_all(err, b"no memory\n"),
-        Status::NotBuilt => put_all(err, b"not built: source at 1:1\n"),
+        Answer::ReadFault => put_read_fault(err, shown(name)),
+        Answer::ShowFault => put_all(err, b"cannot write output\n"),
+        Answer::BadClass(refusal) => put_bad_class(err, shown(name), *refusal),
+        Answer::TooLarge(excess) => put_too_large(err, excess),
+        Answer::NoMemory => put_all(err, b"no memory\n"),
+        Answer::NotBuilt => put_all(err, b"not built: source at 1:1\n"),
     }
 }

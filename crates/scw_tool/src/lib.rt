@@ -1,22 +1,13 @@
-//! The compiler of one object that prints one expression, the text of class files, and the top call.
+//! The top call: a source that is compiled and run, and the text of class files.
 #![tactic(auto)]
 
 mod answer;
-mod constants;
-mod emit;
 mod error_line;
-mod generate;
-mod instr;
-mod names;
-mod pipeline;
-mod reader;
+mod running;
 mod show;
-mod sum_tree;
 mod top;
-mod tree;
-mod units;
 mod words;
 
-pub use answer::{Outcome, Status};
+pub use answer::{Answer, Excess, Outcome, Run};
 pub use error_line::report;
 pub use top::scw_main;

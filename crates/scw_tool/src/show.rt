@@ -1,28 +1,20 @@
 //! The text of a class file.
 
 ghost use Rattle.std.specs.Prelude.{◌≡◌, List, ℕ, Some, IfOk, OnErr, encode_utf8_all};
-ghost use Rattle.std.specs.String.{string_bytes};
 ghost use Rattle.scw_tool.specs.Job.{Edge, Comes, WentShown};
 ghost use Rattle.scw_tool.specs.Words.{job_file, IsMode};
 ghost use Rattle.scw_tool.specs.declared.words.Mode.TheVariants.{Dis};
 
 use crate::answer::Answer;
-use crate::words::name_of;
+use crate::words::{name_of, utf8_of};
 use scw_classfile::{ClassFault, ClassFile, ClassRefusal, ClassRule, read_class};
 use scw_dis::dis;
 use scw_outside::{Sink, SinkFailed, Store, StoreFault, put_all};
 use scw_text::NoMemory;
-use std::alloc::{AllocError, Global};
+use std::alloc::Global;
 
 /// The longest class file that is shown.
 const MOST_BYTES: u32 = 16_777_216;
-
-/// The bytes of a text.
-fn utf8_of(alloc: Global, text: &[char]) -> Result<String, AllocError>
-    ensures { IfOk result (λ s. string_bytes s ≡ encode_utf8_all text.now) }
-{
-    text.iter().copied().collect(alloc)
-}
 
 /// Puts the text of the class.
 fn show_class<O: Sink>(alloc: Global, class: &ClassFile, out: &mut O) -> Result<Answer, NoMemory>

@@ -1,51 +1,36 @@
 //! The top call.
 
-ghost use Rattle.std.specs.Prelude.{◌≡◌, ◌≢◌, ◌↔◌, ◌⊎◌, List, ℕ, [], IsNone, map, Some, None, IfOk, IfSome, OnErr, IsTrue, true, false};
+ghost use Rattle.std.specs.Prelude.{◌≡◌, ◌≢◌, ◌↔◌, ◌⊎◌, List, ℕ, [], Option, IsNone, map, Some, None, IfOk, IfSome, OnErr, IsTrue, true, false};
 ghost use Rattle.std.specs.Option.{option_map};
 ghost use Rattle.std.specs.String.{string_bytes};
 ghost use Rattle.scw_outside.specs.Causes.{Rose};
 ghost use Rattle.scw_outside.specs.Content.{HasName};
-ghost use Rattle.scw_tool.specs.Job.{Edge, Comes, PrintsValue, Executed, CutOff, Judged, IsReady, Went, has_run, is_judged};
-ghost use Rattle.scw_tool.specs.Status.{IsStatus, SaysLine};
-ghost use Rattle.scw_tool.specs.Source.{Sum, fits_sum};
 ghost use Rattle.scw_classfile.specs.declared.class_file.ClassFile.{ClassFile};
+ghost use Rattle.scw_core.specs.Seen as seen;
+ghost use Rattle.scw_core.specs.Types.{Name};
+ghost use Rattle.scw_tool.specs.Executed.{CutOff, Executed, Finished, IsReady, Stopped};
+ghost use Rattle.scw_tool.specs.Job.{Comes, Edge, has_run, is_judged};
 ghost use Rattle.scw_tool.specs.JobView.{seen_job};
 ghost use Rattle.scw_tool.specs.Show.{IsReadyClass, JudgedClass, Shown, ShownInPart, is_judged_class};
+ghost use Rattle.scw_tool.specs.Source.{IsTooLarge, Judged};
+ghost use Rattle.scw_tool.specs.Status.{IsStatus, SaysLine};
 ghost use Rattle.scw_tool.specs.Words.{job_file, job_name, job_of, IsMode};
+ghost use Rattle.scw_tool.specs.declared.answer.Excess.{Excess};
 ghost use Rattle.scw_tool.specs.declared.words.Mode.TheVariants.{Run, Dis};
 
 use crate::answer::{Answer, Outcome};
 use crate::error_line::report;
-use crate::pipeline::{make, prepare};
-use crate::reader::{Sum, read_source};
+use crate::running::run_program;
 use crate::show::show_file;
 use crate::words::{Job, Mode, file_of, job_of, name_of};
-use scw_machine::End;
+use scw_built::sources_are_built;
 use scw_outside::{Sink, Store, StoreFault};
+use scw_small::read_program;
 use scw_text::NoMemory;
 use std::alloc::Global;
 
 /// A file of more bytes than a source may have is read only so far.
 const MOST_READ: u32 = 1_048_577;
-
-/// The rows that a run may take.
-const MOST_ROWS: u64 = 50_000_000;
-
-// Compiles a sum, runs its class file and puts what it says.
-fn run_sum<O: Sink>(alloc: Global, sum: &Sum, out: &mut O) -> Result<Answer, NoMemory>
-    requires { IsTrue (fits_sum sum.now) }
-    ensures went { IfOk result (λ a. Went sum.now (O.room out.old) (O.fault_count out.old) (O.fault_count out.new) (O.taken out.old) (O.taken out.new) a) }
-    ensures kept { OnErr result (O.taken out.new ≡ O.taken out.old) }
-{
-    let files = make(alloc, sum)?;
-    let mut machine = prepare(alloc, &files, sum)?;
-    match machine.run(out, MOST_ROWS) {
-        End::Ended => Ok(Answer::Done(files, machine.done())),
-        End::SinkFault => Ok(Answer::WriteFault(files, machine.done())),
-        End::Thrown(_) | End::Steps | End::HeapFull { .. } | End::Frames | End::Stuck(_) =>
-            unreachable!(),
-    }
-}
 
 // Reads the file, and runs it where it is a source.
 fn run_file<S: Store, O: Sink>(
@@ -64,8 +49,11 @@ fn run_file<S: Store, O: Sink>(
         Err(StoreFault::Failed) => return Ok(Answer::ReadFault),
         Err(StoreFault::NoMemory) => return Err(NoMemory),
     };
-    match read_source(alloc, source.as_slice())? {
-        Some(sum) => run_sum(alloc, &sum, out),
+    match read_program(alloc, source.as_slice())? {
+        Some(program) => {
+            sources_are_built();
+            run_program(alloc, &program, out)
+        }
         None => Ok(Answer::NotBuilt),
     }
 }
@@ -115,10 +103,10 @@ pub fn scw_main<S: Store, O: Sink, E: Sink>(
     out: &mut O,
     err: &mut E,
 ) -> Outcome
-    // The headline: where `run` ends with status 0, the file is a source that prints a sum, and what was put is the decimal text of its value, wrapped at 32 bits, and a line end.
-    ensures headline { IsMode (map string_bytes words.now.items) Run → result.status ≡ 0 → PrintsValue (map string_bytes words.now.items) (S.told store.old) (O.taken out.old) (O.taken out.new) }
-    // It was put by the machine, on the class file that was made, in exactly so many rows.
-    ensures run { IsMode (map string_bytes words.now.items) Run → result.status ≡ 0 → Executed (map string_bytes words.now.items) (S.told store.old) result.files result.steps (O.taken out.old) (O.taken out.new) }
+    // The headline: where a class file was run, it was made from the one program that the source says, reads back, and does what the program does; the machine ran it, put its output, and did `steps` rows; its answer is the status, and says how the program's own run goes.
+    ensures headline { IsMode (map string_bytes words.now.items) Run → IsTrue (has_run result.status) → Executed (map string_bytes words.now.items) (S.told store.old) result.status result.files result.steps (O.taken out.old) (O.taken out.new) (O.room out.old) }
+    // Status 0 of `run`: the source's `main` ends, and all that it puts was put.
+    ensures finished { IsMode (map string_bytes words.now.items) Run → result.status ≡ 0 → Finished (map string_bytes words.now.items) (S.told store.old) seen.normal (O.taken out.old) (O.taken out.new) }
     // Where `dis` ends with status 0, the file is one class, and no other, and its text was put.
     ensures shown { IsMode (map string_bytes words.now.items) Dis → result.status ≡ 0 → Shown (map string_bytes words.now.items) (S.told store.old) (O.taken out.old) (O.taken out.new) }
     // Status 2: the words are no job.
@@ -129,31 +117,40 @@ pub fn scw_main<S: Store, O: Sink, E: Sink>(
     ensures has { IsTrue (S.is_calm store.old) → IfSome (job_name (map string_bytes words.now.items)) (λ name. HasName (S.told store.old) name → result.status ≢ 3) }
     // Status 4: `out` failed in this call.
     ensures write { result.status ≡ 4 → Rose (O.fault_count out.old) (O.fault_count out.new) }
-    // With status 4 it had taken a front of what the machine says up to the row whose put failed, or of the class's text.
-    ensures cut { IsMode (map string_bytes words.now.items) Run → result.status ≡ 4 → CutOff (map string_bytes words.now.items) (S.told store.old) result.files result.steps (O.taken out.old) (O.taken out.new) }
+    // With status 4 it had taken a part of what the source's `main` puts, or of the class's text.
+    ensures cut { IsMode (map string_bytes words.now.items) Run → result.status ≡ 4 → CutOff (map string_bytes words.now.items) (S.told store.old) (O.taken out.old) (O.taken out.new) }
     ensures cut_text { IsMode (map string_bytes words.now.items) Dis → result.status ≡ 4 → ShownInPart (map string_bytes words.now.items) (S.told store.old) (O.taken out.old) (O.taken out.new) }
-    // Where a source was read and judged, status 14 says exactly that it is none.
-    ensures not_built { IsMode (map string_bytes words.now.items) Run → IsTrue (is_judged result.status) → Judged (map string_bytes words.now.items) (S.told store.old) result.status }
+    // Status 6: the class of the source doesn't fit a class file.
+    ensures large { result.status ≡ 6 → (x : Excess) × IsTooLarge (map string_bytes words.now.items) (S.told store.old) x }
+    // Status 7: the source's `main` ends with an exception, and all that it puts was put.
+    ensures thrown { result.status ≡ 7 → (class : Name) × (message : Option (List ℕ)) × Finished (map string_bytes words.now.items) (S.told store.old) (seen.thrown class message) (O.taken out.old) (O.taken out.new) }
+    // Status 8: all the rows were done, and what was put is a front of what the source's `main` puts.
+    ensures spent { result.status ≡ 8 → (result.steps ≡ 50000000) × Stopped (map string_bytes words.now.items) (S.told store.old) result.steps (O.taken out.old) (O.taken out.new) }
+    // Status 9 and 10: the heap or the frames didn't suffice for the next row; the same of what was put.
+    ensures heap { result.status ≡ 9 → Stopped (map string_bytes words.now.items) (S.told store.old) result.steps (O.taken out.old) (O.taken out.new) }
+    ensures frames { result.status ≡ 10 → Stopped (map string_bytes words.now.items) (S.told store.old) result.steps (O.taken out.old) (O.taken out.new) }
     // Where a class file was read and judged, status 11 says exactly that it is none, or too long.
     ensures bad_class { IsMode (map string_bytes words.now.items) Dis → IsTrue (is_judged_class result.status) → JudgedClass (map string_bytes words.now.items) (S.told store.old) result.status }
-    // There are files and steps where `run` ends with status 0 or 4 alone, and no refusal yet.
+    // Where a source was read and judged, status 14 says exactly that it is none.
+    ensures not_built { IsMode (map string_bytes words.now.items) Run → IsTrue (is_judged result.status) → Judged (map string_bytes words.now.items) (S.told store.old) result.status }
+    // There are files and steps where a class file was run alone, and no refusal yet.
     ensures files { has_run result.status ≡ false → result.files ≡ [] }
     ensures steps { has_run result.status ≡ false → result.steps ≡ 0 }
     ensures nothing_run { IsMode (map string_bytes words.now.items) Dis → (result.files ≡ []) × (result.steps ≡ 0) }
     ensures refusal { result.refusal ≡ None }
     // The status is one of those that have a name. No clause but the next speaks of `err`, so its failure changes nothing else.
     ensures known { IsStatus result.status }
-    // The line for the status, where `err` doesn't fail.
-    ensures said { (Rose (E.fault_count err.old) (E.fault_count err.new) → ⊥) → SaysLine (map string_bytes words.now.items) (S.told store.old) result.status (E.taken err.old) (E.taken err.new) }
+    // The line of the answer, where `err` doesn't fail.
+    ensures said { (Rose (E.fault_count err.old) (E.fault_count err.new) → ⊥) → SaysLine (record { words = map string_bytes words.now.items; told = S.told store.old; is_calm = S.is_calm store.old; store_before = S.fault_count store.old; store_after = S.fault_count store.new; room = O.room out.old; out_before = O.fault_count out.old; out_after = O.fault_count out.new; taken_before = O.taken out.old; taken_after = O.taken out.new }) result.status result.files result.steps (E.taken err.old) (E.taken err.new) }
     // The store's files are as before, and so is `out` where nothing was run or shown.
     ensures store { S.told store.new ≡ S.told store.old }
     ensures out { has_run result.status ≡ false → O.taken out.new ≡ O.taken out.old }
-    // A source in a calm store, with room for its line, is run, and a class file, with room for its text, is shown, unless memory runs out.
-    ensures complete { (e : Sum) → IsReady (map string_bytes words.now.items) (S.told store.old) (S.is_calm store.old) (O.room out.old) e → (result.status ≡ 0) ⊎ (result.status ≡ 12) }
+    // A source in a calm store whose run ends within the limits, with room for all that it puts, is run to its end, and a class file, with room for its text, is shown, unless memory runs out.
+    ensures complete { IsReady (map string_bytes words.now.items) (S.told store.old) (S.is_calm store.old) (O.room out.old) → (result.status ≡ 0) ⊎ (result.status ≡ 7) ⊎ (result.status ≡ 12) }
     ensures complete_text { (c : ClassFile) → IsReadyClass (map string_bytes words.now.items) (S.told store.old) (S.is_calm store.old) (O.room out.old) c → (result.status ≡ 0) ⊎ (result.status ≡ 12) }
 {
     let job = job_of(words.as_slice());
     let answer = answer_to(alloc, job, store, out);
-    let _ = report(err, file_of(job), answer.status());
+    let _ = report(err, file_of(job), &answer);
     answer.into_outcome(alloc)
 }

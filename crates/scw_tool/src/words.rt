@@ -1,6 +1,6 @@
 //! The words of a call.
 
-ghost use Rattle.std.specs.Prelude.{◌≡◌, map, IfOk};
+ghost use Rattle.std.specs.Prelude.{◌≡◌, map, IfOk, encode_utf8_all};
 ghost use Rattle.std.specs.Option.{option_map};
 ghost use Rattle.std.specs.Str.{chars};
 ghost use Rattle.std.specs.String.{string_bytes};
@@ -9,7 +9,7 @@ ghost use Rattle.scw_tool.specs.Words.{job_of, mode_named};
 
 use scw_text::{NoMemory, Text};
 use sqlite_items::Items;
-use std::alloc::Global;
+use std::alloc::{AllocError, Global};
 
 /// What is done with a file.
 #[derive(Clone, Copy, Debug, PartialEq, Eq)]
@@ -74,4 +74,11 @@ pub fn name_of(alloc: Global, file: &str) -> Result<Text, NoMemory>
     ensures { IfOk result (λ name. name ≡ chars file.now) }
 {
     Ok(Items::from_vec(file.chars().collect(alloc)?))
+}
+
+/// The bytes of a text.
+pub fn utf8_of(alloc: Global, text: &[char]) -> Result<String, AllocError>
+    ensures { IfOk result (λ s. string_bytes s ≡ encode_utf8_all text.now) }
+{
+    text.iter().copied().collect(alloc)
 }

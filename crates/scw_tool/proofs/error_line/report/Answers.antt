@@ -6,11 +6,3 @@ use Rattle.scw_tool.proofs.error_line.report.Goals as goal
 pub returns-in-ReadFault-clause-done : goal.returns-in-ReadFault-clause-done
 returns-in-ReadFault-clause-done g c = λ words h.
     put_same c.put_read_fault.result _ _ _ _ (ap read_fault_line (c.shown.ensures ∙ ap shown_name h) ∙ sym (ap (line_of words) c.in-ReadFault.is)) c.put_read_fault.ensures.done
-
-pub returns-in-WriteFault-clause-done : goal.returns-in-WriteFault-clause-done
-returns-in-WriteFault-clause-done g c = λ words h.
-    put_same c.put_all-in-WriteFault.result _ _ _ _ (sym (ap (line_of words) c.in-WriteFault.is)) c.put_all-in-WriteFault.ensures.done
-
-pub returns-in-NotBuilt-clause-done : goal.returns-in-NotBuilt-clause-done
-returns-in-NotBuilt-clause-done g c = λ words h.
-    put_same c.put_all-in-NotBuilt.result _ _ _ _ (sym (ap (line_of words) c.in-NotBuilt.is)) c.put_all-in-NotBuilt.ensures.done

@@ -1,0 +1,41 @@
+-- A run that ends within the limits, with room for what it puts, is run to its end.
+use Rattle.std.proofs.Common.{◌≡◌, ◌⊎◌, inl, inr, ℕ, ◌+◌, ◌<◌, ◌≤◌, List, [], length, Option, Some, None, Ok, refl, sym, ap, ◌∙◌, subst, arith, IfSome}
+use Rattle.scw_classfile.specs.declared.class_file.ClassFile.{ClassFile}
+use Rattle.scw_machine.specs.Course.{Course, Halt, course, crowded, full, going, halted, output_of, returned, stuck, uncaught}
+use Rattle.scw_machine.specs.Run.{Came, Ran, Running}
+use Rattle.scw_machine.specs.declared.end.End.{End}
+use Rattle.scw_machine.specs.declared.end.End.TheVariants as why
+use Rattle.scw_step.specs.declared.state.State.{State}
+use Rattle.scw_tool.specs.Executed.{IsOver}
+use Rattle.scw_tool.specs.Machine.{limited_course, loaded, main_program, most_rows, status_of_end}
+use Rattle.scw_tool.proofs.CourseLemmas.{at_most, halts_once, not_before}
+
+no_room : (room : Option ℕ) (left n : ℕ) → room ≡ Some left → n ≤ left → IfSome room (λ r. r < n) → ⊥
+no_room None left n h le f = cc
+no_room (Some r) left n h le f = let same : left ≡ r = cc in omega (arith, same, le, f)
+
+module _ (c : ClassFile) (rows : ℕ) (within : rows ≤ most_rows) (halt : Halt) (state : State) (out : List ℕ) (ends : limited_course c rows ≡ halted halt state out) (over : IsOver halt) (left : ℕ) (enough : length out ≤ left) where
+  abbrev s0 : State
+  s0 = (loaded c).state
+
+  -- the run halts so alone
+  only : (n : ℕ) (h : Halt) (t : State) (a : List ℕ) → limited_course c n ≡ halted h t a → IsOver h
+  only n h t a e = subst IsOver (halts_once (main_program c) s0 rows n halt h state t out a ends e).0 over
+
+  module _ (t : State) (before now : Option (List ℕ)) (room : Option ℕ) (room_is : room ≡ Some left) where
+    ended : (end : End) (n : ℕ) → Came end most_rows n (main_program c) s0 t before now room → (status_of_end end ≡ 0) ⊎ (status_of_end end ≡ 7)
+    ended why.Ended n h = inl refl
+    ended (why.Thrown r) n h = inr refl
+    ended why.Steps n h =
+        let goes = h.1 in
+        let before = not_before (main_program c) s0 rows n halt state t out goes.out ends goes.run in
+        absurd (omega (arith, before, h.0, within))
+    ended (why.HeapFull need) n h = absurd (only (n + 1) (full need) h.last h.out h.over)
+    ended why.Frames n h = absurd (only (n + 1) crowded h.last h.out h.over)
+    ended why.SinkFault n h =
+        let most = at_most (main_program c) s0 rows n halt state out ends in
+        absurd (no_room room left (length (output_of (limited_course c n))) room_is (omega (arith, most, enough)) h.short)
+    ended (why.Stuck place) n h = absurd (only (n + 1) stuck h.stops.last h.stops.out h.stops.over)
+
+  pub over_so : (end : End) (new : Running) (before now : Option (List ℕ)) (room : Option ℕ) → room ≡ Some left → Ran end most_rows (loaded c) new before now room → (status_of_end end ≡ 0) ⊎ (status_of_end end ≡ 7)
+  over_so end new before now room is r = ended new.state before now room is end r.rows r.came
