@@ -1,7 +1,7 @@
 -- A run that ends within the limits, with room for what it puts, is run to its end.
-use Rattle.std.proofs.Common.{◌≡◌, ◌⊎◌, inl, inr, ℕ, ◌+◌, ◌<◌, ◌≤◌, List, [], length, Option, Some, None, Ok, refl, sym, ap, ◌∙◌, subst, arith, IfSome}
+use Rattle.std.proofs.Common.{◌≡◌, ◌⊎◌, inl, inr, ℕ, ◌+◌, ◌<◌, ◌≤◌, List, length, Option, Some, None, refl, subst, arith, IfSome}
 use Rattle.scw_classfile.specs.declared.class_file.ClassFile.{ClassFile}
-use Rattle.scw_machine.specs.Course.{Course, Halt, course, crowded, full, going, halted, output_of, returned, stuck, uncaught}
+use Rattle.scw_machine.specs.Course.{Halt, crowded, full, halted, output_of, stuck}
 use Rattle.scw_machine.specs.Run.{Came, Ran, Running}
 use Rattle.scw_machine.specs.declared.end.End.{End}
 use Rattle.scw_machine.specs.declared.end.End.TheVariants as why

@@ -1,5 +1,5 @@
 -- From what came of a program, or of a class, to the answer.
-use Rattle.std.proofs.Common.{◌≡◌, ℕ, ◌≤◌, false, nat_lt, length, List, Option, Some, None, Result, Ok, Err, refl, sym, ap, ◌∙◌, IsTrue}
+use Rattle.std.proofs.Common.{◌≡◌, ℕ, ◌≤◌, false, nat_lt, length, List, Option, Some, Result, Ok, Err, refl, sym, ap}
 use Rattle.std.specs.Option.{option_map}
 use Rattle.std.specs.Prelude.{IfOk}
 use Rattle.std.specs.Str.{chars}

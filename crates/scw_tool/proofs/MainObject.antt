@@ -1,5 +1,5 @@
 -- The program of a source has the object `Main`, and its `main`.
-use Rattle.std.proofs.Common.{◌≡◌, inl, inr, refl, sym, ap, subst, ◌∙◌, ℕ, suc, ◌<◌, arith, Bool, true, false, cond, List, [], ◌∷◌, length, position, option_map, Option, Some, None, nat_lt, codes}
+use Rattle.std.proofs.Common.{◌≡◌, inl, inr, refl, sym, subst, ℕ, ◌<◌, arith, Bool, true, false, cond, List, [], length, position, option_map, Option, Some, None, nat_lt, codes}
 use Rattle.std.specs.Prelude.{IsSome, option_and_then, slice_get}
 use Rattle.std.specs.List.{position_or_len}
 use Rattle.std.proofs.lemmas.Bool.{false≢true, ltb-true}
@@ -16,7 +16,7 @@ use Rattle.scw_small.specs.Step.{State}
 use Rattle.scw_small.specs.Whole.{Made, beginning, main_class, object, program, program_in, table, typed}
 use Rattle.scw_back.specs.Same.{object_name}
 use Rattle.scw_tool.specs.Machine.{main_name}
-use Rattle.scw_tool.specs.Source.{HasMain, IsMain}
+use Rattle.scw_tool.specs.Source.{HasMain}
 
 -- the symbol of the object
 abbrev main_object : SymId

@@ -1,5 +1,5 @@
 -- From the machine that was loaded, and its answer, to what a call says of the program's run.
-use Rattle.std.proofs.Common.{◌≡◌, ℕ, ◌+◌, List, [], ◌∷◌, Option, Some, None, refl, sym, ap, ◌∙◌, subst, arith}
+use Rattle.std.proofs.Common.{◌≡◌, ℕ, List, [], ◌∷◌, Option, None, refl, sym, ap, ◌∙◌, subst}
 use Rattle.std.specs.Prelude.{codes}
 use Rattle.std.specs.Str.{chars}
 use Rattle.std.proofs.lemmas.Str.{chars-encodes}
@@ -18,7 +18,7 @@ use Rattle.scw_run.specs.Load.{HasNoMain, IsMachineOf}
 use Rattle.scw_run.specs.Shows.{Shows}
 use Rattle.scw_run.specs.declared.loading.Loaded.{Loaded}
 use Rattle.scw_tool.specs.Executed.{RanSo}
-use Rattle.scw_tool.specs.Machine.{loaded, main_name, main_program, most_frames, most_rows, most_units, most_words}
+use Rattle.scw_tool.specs.Machine.{loaded, main_name, most_frames, most_rows, most_units, most_words}
 use Rattle.scw_tool.specs.Source.{IsBuilt, IsMain}
 
 -- the name of the object, as it is told

@@ -1,5 +1,5 @@
 -- What the top call says of each answer.
-use Rattle.std.proofs.Common.{◌≡◌, ◌≢◌, ◌⊎◌, inl, inr, ◌↔◌, ℕ, ◌+◌, ◌≤◌, Bool, false, true, ◌||◌, nat_eq, List, [], length, Option, Some, None, Ok, nat_lt, refl, sym, ap, subst, ◌∙◌, IsTrue, IfSome, arith}
+use Rattle.std.proofs.Common.{◌≡◌, ◌≢◌, ◌⊎◌, inl, inr, ◌↔◌, ℕ, ◌≤◌, Bool, false, true, ◌||◌, nat_eq, List, [], length, Option, Some, None, Ok, nat_lt, refl, sym, ap, subst, ◌∙◌, IsTrue, IfSome}
 use Rattle.std.specs.Prelude.{IsSome, IsNone}
 use Rattle.std.proofs.lemmas.Bool.{false≢true, le-ltb}
 use Rattle.scw_outside.specs.Causes.{Rose}
@@ -26,9 +26,9 @@ use Rattle.scw_tool.specs.declared.words.Mode.TheVariants as mode
 use Rattle.scw_tool.specs.Executed.{CutOff, Executed, Finished, IsReady, RanSo, Stopped}
 use Rattle.scw_tool.specs.Job.{Edge, Comes, has_run, is_judged}
 use Rattle.scw_tool.specs.Machine.{limited_course, status_of_end}
-use Rattle.scw_tool.specs.Read.{HasRead, most_read}
+use Rattle.scw_tool.specs.Read.{HasRead}
 use Rattle.scw_tool.specs.Show as show
-use Rattle.scw_tool.specs.Source.{IsSource, IsTooLarge, Judged, SaysNothing}
+use Rattle.scw_tool.specs.Source.{IsSource, IsTooLarge, Judged}
 use Rattle.scw_tool.specs.Status.{number_of, files_of, steps_of}
 use Rattle.scw_tool.specs.Words.{job_name, IsMode}
 use Rattle.scw_tool.proofs.CompleteLemmas.{over_so}

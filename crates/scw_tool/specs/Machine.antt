@@ -1,5 +1,5 @@
 -- The machine that `run` uses: JVMS 5.2, with this program's own limits on what a run may take.
-use Rattle.std.specs.Prelude.{ℕ, List, [], ◌∷◌, Option, codes}
+use Rattle.std.specs.Prelude.{ℕ, List, [], ◌∷◌, codes}
 use Rattle.scw_classfile.specs.declared.class_file.ClassFile.{ClassFile}
 use Rattle.scw_frame.specs.declared.program.Program.{Program}
 use Rattle.scw_link.specs.Linked.{linked}

@@ -1,5 +1,5 @@
 -- What a call with `dis FILE` came to.
-use Rattle.std.specs.Prelude.{◌≡◌, ◌↔◌, ℕ, ◌≤◌, Bool, ◌||◌, IsTrue, List, length, Option, Some, None, IsSome, IfSome, Result, Ok, Err, if◌then◌else◌, nat_lt, nat_eq, encode_utf8_all}
+use Rattle.std.specs.Prelude.{◌≡◌, ◌↔◌, ℕ, ◌≤◌, Bool, ◌||◌, IsTrue, List, length, Option, Some, None, IsSome, Result, Ok, Err, if◌then◌else◌, nat_lt, nat_eq, encode_utf8_all}
 use Rattle.std.specs.Io.KnownBytes.{append_known}
 use Rattle.scw_outside.specs.Content.{Files, HasName}
 use Rattle.scw_outside.specs.Puts.{TookPart}

@@ -1,6 +1,5 @@
 use Rattle.std.proofs.Common.{subst, List, ℕ, arith}
 use Rattle.std.specs.Str.{chars}
-use Rattle.scw_classfile.specs.ReadClass.{ClassBytes, read_class}
 use Rattle.scw_outside.specs.Content.{Reads}
 use Rattle.scw_tool.proofs.JobLemmas.{all_shown, name_is}
 use Rattle.scw_tool.proofs.show.show_file.Goals as goal

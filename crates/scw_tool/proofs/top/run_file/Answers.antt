@@ -24,7 +24,7 @@ returns-clause-comes g c = λ words m h. (
   record {
     source = c.in-Ok.source;
     read =
-    record { is_mode = m; name = chars c.args.file.now; job = name_is words c.args.file.now h; read = subst (λ (n : List ℕ). Reads (g.S.Store.told c.args.store.now) n 1048577 c.in-Ok.source) c.in_ok-name.ensures c.in-Ok.ensures.content };
+        record { is_mode = m; name = chars c.args.file.now; job = name_is words c.args.file.now h; read = subst (λ (n : List ℕ). Reads (g.S.Store.told c.args.store.now) n 1048577 c.in-Ok.source) c.in_ok-name.ensures c.in-Ok.ensures.content };
     none = rw (← c.as_slice.ensures) (rw c.in-None.is at c.in_ok-program.ensures.none);
   },
   refl,

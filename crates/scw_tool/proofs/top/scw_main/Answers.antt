@@ -82,5 +82,5 @@ returns-clause-said g c = λ calm. record {
   files_are = c.into_outcome.ensures.files;
   steps_are = c.into_outcome.ensures.steps;
   put =
-  taken_whole c.report.result (c.report.ensures.done (map string_bytes c.args.words.now.items) (c.file_of.ensures ∙ ap (option_map (λ j. j.1)) (rw c.as_slice.ensures.value at c.job_of-job.ensures))) c.report.ensures.rose calm;
+      taken_whole c.report.result (c.report.ensures.done (map string_bytes c.args.words.now.items) (c.file_of.ensures ∙ ap (option_map (λ j. j.1)) (rw c.as_slice.ensures.value at c.job_of-job.ensures))) c.report.ensures.rose calm;
 }
