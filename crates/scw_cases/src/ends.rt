@@ -17,7 +17,7 @@ struct Row {
     err: &'static str,
 }
 
-const ROWS: [Row; 5] = [
+const ROWS: [Row; 6] = [
     Row {
         shows: "a loop and calls",
         source: "object Main { def f(n: Int): Int = if (n < 2) 1 else f(n - 1) + f(n - 2); \
@@ -49,10 +49,19 @@ def main(args: Array[String]): Unit = { var i: Int = 0; while (i < 5) { println(
     },
     Row {
         shows: "texts without end",
-        source: "object Main { def main(args: Array[String]): Unit = { var s: String = \"a\"; while (true) s = s + 1 } }",
+        source: "object Main {\n  def main(args: Array[String]): Unit = {\n    println(\"growing\");\n    \
+var s: String = \"a\";\n    while (true) s = s + s\n  }\n}\n",
         status: 9,
-        out: "",
+        out: "growing\n",
         err: "heap full\n",
+    },
+    Row {
+        shows: "a loop without end",
+        source: "object Main {\n  def main(args: Array[String]): Unit = {\n    println(\"counting\");\n    \
+var n: Long = 0L;\n    while (true) n = n + 1L\n  }\n}\n",
+        status: 8,
+        out: "counting\n",
+        err: "steps spent\n",
     },
 ];
 
