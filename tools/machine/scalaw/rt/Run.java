@@ -13,6 +13,10 @@ public final class Run {
         return String.valueOf(a).concat(String.valueOf(b));
     }
 
+    public static Unit unit() {
+        return Unit.VALUE;
+    }
+
     public static Integer box(int n) {
         return new Integer(n);
     }
