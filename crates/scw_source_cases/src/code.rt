@@ -452,11 +452,16 @@ fn parameters_take_at_most_255_slots(rt: HostRuntime) -> Result<(), Fail> {
         (1, 255),
         "this, and 127 numbers of two slots"
     );
-    let excess = excess_of(alloc, f_of_longs(alloc, 128)?, int(alloc, 1));
+    let mut one_more = f_of_longs(alloc, 127)?;
+    one_more.parameters.push(Parameter {
+        symbol: SymId(99),
+        type_id: INT_TYPE,
+        is_by_name: false,
+    })?;
     assert_eq!(rt;
-        excess,
-        Some((LargeKind::Slots, 257)),
-        "this, and 128 numbers of two slots"
+        excess_of(alloc, one_more, int(alloc, 1)),
+        Some((LargeKind::Slots, 256)),
+        "one number of one slot more"
     );
     Ok(())
 }
