@@ -9,14 +9,15 @@ use sqlite_items::Items;
 use std::alloc::{AllocError, Global};
 use std::process::ExitCode;
 
-/// All but `endless_loop` and `endless_text`, which take long where the program is built without optimisation.
-const EXAMPLES: [&str; 9] = [
+const EXAMPLES: [&str; 11] = [
     "Main",
     "arithmetic",
     "blocks",
     "conditions",
     "division_by_zero",
     "endless_calls",
+    "endless_loop",
+    "endless_text",
     "loops",
     "methods",
     "texts",
