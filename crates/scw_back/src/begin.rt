@@ -31,7 +31,9 @@ fn is_unit_tree(tree: &Tree) -> bool
 {
     match tree {
         Tree::Strict(_, op, operands) => is_unit_op(*op) && has_none(operands.as_slice()),
-        _ => false,
+        Tree::Block(..) | Tree::AndAlso(..) | Tree::OrElse(..) | Tree::If(..) => false,
+        Tree::While(..) | Tree::Function(..) | Tree::Thunk(..) | Tree::Match(..) => false,
+        Tree::Try(..) | Tree::Label(..) | Tree::Switch(..) => false,
     }
 }
 
@@ -41,7 +43,15 @@ fn is_module_of(s: SymId, op: Op) -> bool
 {
     match op {
         Op::Module(o) => o.0 == s.0,
-        _ => false,
+        Op::Literal(_) | Op::Local(_) | Op::SetLocal(_) => false,
+        Op::Call(_) | Op::Primitive(_) | Op::Run(_) => false,
+        Op::Get(_) | Op::Set(_) | Op::LazyGet(_) => false,
+        Op::New(_) | Op::NewInner(_) | Op::Super(..) | Op::Direct(_) => false,
+        Op::Static(..) | Op::GetStatic(..) | Op::SetStatic(..) => false,
+        Op::Force | Op::Throw | Op::Exit(_) => false,
+        Op::IsA(_) | Op::Cast(_) | Op::Coerce(_) | Op::Box | Op::Unbox(_) => false,
+        Op::ArrayNew(_) | Op::ArrayGet | Op::ArraySet | Op::ArrayLength => false,
+        Op::Cell | Op::CellGet | Op::CellSet => false,
     }
 }
 
@@ -60,7 +70,9 @@ fn gives_object(s: SymId, tree: &Tree) -> bool
 {
     match tree {
         Tree::Strict(_, op, operands) => is_module_of(s, *op) && is_one_unit(operands.as_slice()),
-        _ => false,
+        Tree::Block(..) | Tree::AndAlso(..) | Tree::OrElse(..) | Tree::If(..) => false,
+        Tree::While(..) | Tree::Function(..) | Tree::Thunk(..) | Tree::Match(..) => false,
+        Tree::Try(..) | Tree::Label(..) | Tree::Switch(..) => false,
     }
 }
 

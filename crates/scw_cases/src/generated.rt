@@ -1,14 +1,16 @@
-//! Sources of the small language: read, typed, made a class file, which is shown as text, and run.
+//! Sources of the small language: read, typed, and made a class file, which is shown as text, or loaded and run.
 
-use crate::program::{Limits, run_class};
+use crate::call::text;
 use scw_back::class_file;
 use scw_core::Program;
 use scw_dis::dis;
-use scw_gen::{GenFault, LargeKind};
 use scw_machine::End;
-use scw_reader::{Atom, Expression, Product, Source, Statement};
-use scw_small::{read_program, typed_program};
-use std::alloc::{AllocError, Global};
+use scw_outside::MemSink;
+use scw_run::{Loaded, RunFault, load_program};
+use scw_small::read_program;
+use scw_text::Text;
+use sqlite_items::Items;
+use std::alloc::Global;
 use std::test::Fail;
 
 /// The first numbers of Fibonacci, each in a line behind an `f`.
@@ -93,74 +95,43 @@ fn a_source_becomes_a_class_file(rt: HostRuntime) -> Result<(), Fail> {
     Ok(())
 }
 
-/// A heap of 10,000 units, and more rows than the sources need.
-const LIMITS: Limits = Limits {
-    heap: 10_000,
-    steps: 10_000,
-};
+/// More bytes than the run puts.
+const AMPLE: u32 = 10_000;
 
-/// Runs the object of the source, and says how the run ended and what was put.
-fn ending_of(alloc: Global, source: &str) -> Result<(End, Vec<u8>), Fail> {
+/// Why the machine stops that has loaded the program's class file, and after how many of these rows.
+fn stop_of(
+    alloc: Global,
+    program: &Program,
+    main: &Text,
+    rows: u64,
+    out: &mut MemSink,
+) -> Result<(End, u64), RunFault> {
+    let Loaded {
+        files: _files,
+        mut machine,
+    } = load_program(alloc, program, main, 10_000, 100, 10_000)?;
+    let end = machine.run(out, rows);
+    Ok((end, machine.done()))
+}
+
+/// The same of a source's program, and what was put by then.
+fn ran(alloc: Global, source: &str, rows: u64) -> Result<(End, u64, Vec<u8>), Fail> {
     let program = read_program(alloc, source.as_bytes())?.ok_or("it is no source")?;
-    let ran = run_class(alloc, &class_file(alloc, &program)?, LIMITS)?;
-    Ok((ran.end, ran.taken))
+    let main = text(alloc, "Main")?;
+    let mut out = MemSink::new(alloc, AMPLE, Items::new(alloc))?;
+    let (end, done) = stop_of(alloc, &program, &main, rows, &mut out)?;
+    Ok((end, done, out.taken().to_vec(alloc)?))
 }
 
 #[test]
-fn a_source_runs(rt: HostRuntime) -> Result<(), Fail> {
-    let (end, taken) = ending_of(rt.alloc(), NUMBERS)?;
-    assert_eq!(rt; end, End::Ended);
-    assert_eq!(rt; taken.as_slice(), b"f1\nf1\nf2\nf3\nf5\n".as_slice());
-    Ok(())
-}
-
-/// An atom as an expression.
-fn alone(alloc: Global, atom: Atom) -> Expression {
-    let product = Product {
-        first: atom,
-        more: Vec::new(alloc),
-    };
-    Expression::Sum(product, Vec::new(alloc))
-}
-
-/// `println(1)`
-fn print_one(alloc: Global) -> Result<Expression, AllocError> {
-    let one = alone(alloc, Atom::Int(1));
-    Ok(alone(alloc, Atom::Print(Box::new(alloc, one)?)))
-}
-
-/// An object whose `main` is so many times `println(1)`.
-fn prints(alloc: Global, count: u32) -> Result<Source, AllocError> {
-    let mut statements = Vec::new(alloc);
-    for _turn in 1..count {
-        statements.push(Statement::Plain(print_one(alloc)?))?;
+fn a_loop_is_run_to_its_last_row(rt: HostRuntime) -> Result<(), Fail> {
+    let source = "object Main { def main(args: Array[String]): Unit = while (true) println(1) }";
+    let (end, done, taken) = ran(rt.alloc(), source, 1_000)?;
+    assert_eq!(rt; end, End::Steps);
+    assert_eq!(rt; done, 1_000);
+    assert!(rt; !taken.is_empty());
+    for line in taken.chunks(2) {
+        assert_eq!(rt; line, b"1\n".as_slice());
     }
-    let last = Box::new(alloc, print_one(alloc)?)?;
-    Ok(Source {
-        before: Vec::new(alloc),
-        main: Expression::Block(statements, last),
-        after: Vec::new(alloc),
-    })
-}
-
-/// What there is too much of in the class of the program, and how much.
-fn excess_of(alloc: Global, program: &Program) -> Option<(LargeKind, u64)> {
-    match class_file(alloc, program) {
-        Err(e) => match e {
-            GenFault::TooLarge(large) => Some((large.kind, large.number)),
-            GenFault::NotBuilt | GenFault::NoMemory => None,
-        },
-        Ok(_file) => None,
-    }
-}
-
-/// A statement has 20 bytes: two `ldc` of 2 bytes, `iconst_1`, and five calls of 3 bytes. Behind them stands `return`.
-#[test]
-fn a_method_of_many_statements_is_too_large(rt: HostRuntime) -> Result<(), Fail> {
-    let alloc = rt.alloc();
-    let small = typed_program(alloc, &prints(alloc, 3_276)?)?.ok_or("it is no source")?;
-    assert_eq!(rt; excess_of(alloc, &small), None, "65,521 bytes");
-    let large = typed_program(alloc, &prints(alloc, 3_277)?)?.ok_or("it is no source")?;
-    assert_eq!(rt; excess_of(alloc, &large), Some((LargeKind::Code, 65_541)));
     Ok(())
 }

@@ -7,8 +7,6 @@
 #[cfg(test)]
 mod call;
 #[cfg(test)]
-mod class_bytes;
-#[cfg(test)]
 mod class_files;
 #[cfg(test)]
 mod ends;
@@ -17,21 +15,7 @@ mod faults;
 #[cfg(test)]
 mod generated;
 #[cfg(test)]
-mod instructions;
-#[cfg(test)]
-mod jumps;
-#[cfg(test)]
-mod limits;
-#[cfg(test)]
 mod not_built;
-#[cfg(test)]
-mod objects;
-#[cfg(test)]
-mod opcode;
-#[cfg(test)]
-mod pool;
-#[cfg(test)]
-mod program;
 #[cfg(test)]
 mod shown;
 #[cfg(test)]

@@ -11,8 +11,6 @@ mod operator;
 mod plain;
 mod program;
 pub mod symbol;
-#[cfg(test)]
-mod tests;
 mod tree;
 
 pub use class::{

@@ -2,7 +2,7 @@
 
 ghost use Rattle.scw_frame.specs.Does.{Does};
 ghost use Rattle.scw_frame.specs.Group.{TakesGroup, values};
-ghost use Rattle.scw_frame.specs.FrameStep.{doubled, one, pushing_all, rearranging, two};
+ghost use Rattle.scw_frame.specs.FrameStep.{and_then, doubled, one, pushing_all, rearranging, two};
 
 use crate::frames::Frames;
 use crate::operand::{pop, push};
@@ -69,54 +69,44 @@ fn push_doubled(frames: &mut Frames, x: Group, y: Group) -> Option<()>
     push_group(frames, x)
 }
 
+/// Pushes the group, and once more.
+fn push_twice(frames: &mut Frames, x: Group) -> Option<()>
+    ensures { Does result frames.new (and_then (pushing_all (values x) frames.old) (pushing_all (values x))) }
+{
+    push_group(frames, x)?;
+    push_group(frames, x)
+}
+
 /// Rearranges the top of the stack.
 pub fn rearrange(frames: &mut Frames, operation: StackOperation) -> Option<()>
     ensures { Does result frames.new (rearranging operation frames.old) }
 {
+    let x = match operation {
+        StackOperation::Pop
+        | StackOperation::Duplicate
+        | StackOperation::DuplicateBelowOne
+        | StackOperation::DuplicateBelowTwo
+        | StackOperation::Swap => pop_one(frames)?,
+        StackOperation::PopTwo
+        | StackOperation::DuplicateTwo
+        | StackOperation::DuplicateTwoBelowOne
+        | StackOperation::DuplicateTwoBelowTwo => pop_two(frames)?,
+    };
     match operation {
-        StackOperation::Pop => {
-            pop_one(frames)?;
-            Some(())
+        StackOperation::Pop | StackOperation::PopTwo => Some(()),
+        StackOperation::Duplicate | StackOperation::DuplicateTwo => push_twice(frames, x),
+        StackOperation::DuplicateBelowOne | StackOperation::DuplicateTwoBelowOne => {
+            let y = pop_one(frames)?;
+            push_doubled(frames, x, y)
         }
-        StackOperation::PopTwo => {
-            pop_two(frames)?;
-            Some(())
-        }
-        StackOperation::Duplicate => {
-            let a = pop_one(frames)?;
-            push_group(frames, a)?;
-            push_group(frames, a)
-        }
-        StackOperation::DuplicateBelowOne => {
-            let a = pop_one(frames)?;
-            let b = pop_one(frames)?;
-            push_doubled(frames, a, b)
-        }
-        StackOperation::DuplicateBelowTwo => {
-            let a = pop_one(frames)?;
-            let b = pop_two(frames)?;
-            push_doubled(frames, a, b)
-        }
-        StackOperation::DuplicateTwo => {
-            let a = pop_two(frames)?;
-            push_group(frames, a)?;
-            push_group(frames, a)
-        }
-        StackOperation::DuplicateTwoBelowOne => {
-            let a = pop_two(frames)?;
-            let b = pop_one(frames)?;
-            push_doubled(frames, a, b)
-        }
-        StackOperation::DuplicateTwoBelowTwo => {
-            let a = pop_two(frames)?;
-            let b = pop_two(frames)?;
-            push_doubled(frames, a, b)
+        StackOperation::DuplicateBelowTwo | StackOperation::DuplicateTwoBelowTwo => {
+            let y = pop_two(frames)?;
+            push_doubled(frames, x, y)
         }
         StackOperation::Swap => {
-            let a = pop_one(frames)?;
-            let b = pop_one(frames)?;
-            push_group(frames, a)?;
-            push_group(frames, b)
+            let y = pop_one(frames)?;
+            push_group(frames, x)?;
+            push_group(frames, y)
         }
     }
 }

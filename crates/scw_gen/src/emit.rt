@@ -25,7 +25,16 @@ fn truth_of_op(op: Op) -> Option<bool>
 {
     match op {
         Op::Literal(Literal::Boolean(b)) => Some(b),
-        _ => None,
+        Op::Literal(Literal::Unit | Literal::Char(_) | Literal::Int(_) | Literal::Long(_)) => None,
+        Op::Literal(Literal::Null | Literal::String(_)) => None,
+        Op::Local(_) | Op::SetLocal(_) | Op::Call(_) | Op::Primitive(_) | Op::Run(_) => None,
+        Op::Get(_) | Op::Set(_) | Op::LazyGet(_) | Op::Module(_) => None,
+        Op::New(_) | Op::NewInner(_) | Op::Super(..) | Op::Direct(_) => None,
+        Op::Static(..) | Op::GetStatic(..) | Op::SetStatic(..) => None,
+        Op::Force | Op::Throw | Op::Exit(_) => None,
+        Op::IsA(_) | Op::Cast(_) | Op::Coerce(_) | Op::Box | Op::Unbox(_) => None,
+        Op::ArrayNew(_) | Op::ArrayGet | Op::ArraySet | Op::ArrayLength => None,
+        Op::Cell | Op::CellGet | Op::CellSet => None,
     }
 }
 

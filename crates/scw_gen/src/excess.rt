@@ -89,7 +89,12 @@ fn entry_excess(alloc: Global, entry: &PoolEntry) -> Result<Option<Excess>, Allo
 {
     match entry {
         PoolEntry::Utf8(text) => text_excess_of(alloc, text),
-        _ => Ok(None),
+        PoolEntry::Integer(_) | PoolEntry::Float(_) | PoolEntry::Long(_) => Ok(None),
+        PoolEntry::Double(_) | PoolEntry::Second => Ok(None),
+        PoolEntry::Class(_) | PoolEntry::Str(_) | PoolEntry::MethodType(_) => Ok(None),
+        PoolEntry::Fieldref(..) | PoolEntry::Methodref(..) => Ok(None),
+        PoolEntry::InterfaceMethodref(..) | PoolEntry::NameAndType(..) => Ok(None),
+        PoolEntry::InvokeDynamic(..) | PoolEntry::MethodHandle(..) => Ok(None),
     }
 }
 

@@ -48,7 +48,12 @@ fn form_of_primitive(mode: Mode, p: Primitive) -> Form
             form_of_value(mode)
         }
         Primitive::Concatenate => Form::Texts,
-        _ => Form::Values,
+        Primitive::Division(..) | Primitive::Shift(..) => Form::Values,
+        Primitive::Negate(_) | Primitive::Complement(_) | Primitive::Convert(..) => Form::Values,
+        Primitive::Not | Primitive::Equal | Primitive::NotEqual => Form::Values,
+        Primitive::Same | Primitive::NotSame => Form::Values,
+        Primitive::StringLength | Primitive::CharAt | Primitive::Substring => Form::Values,
+        Primitive::IsEmpty | Primitive::CompareTo => Form::Values,
     }
 }
 
@@ -58,7 +63,14 @@ pub(crate) fn form_of(mode: Mode, op: Op) -> Form
 {
     match op {
         Op::Primitive(p) => form_of_primitive(mode, p),
-        _ => Form::Values,
+        Op::Literal(_) | Op::Local(_) | Op::SetLocal(_) | Op::Call(_) | Op::Run(_) => Form::Values,
+        Op::Get(_) | Op::Set(_) | Op::LazyGet(_) | Op::Module(_) => Form::Values,
+        Op::New(_) | Op::NewInner(_) | Op::Super(..) | Op::Direct(_) => Form::Values,
+        Op::Static(..) | Op::GetStatic(..) | Op::SetStatic(..) => Form::Values,
+        Op::Force | Op::Throw | Op::Exit(_) => Form::Values,
+        Op::IsA(_) | Op::Cast(_) | Op::Coerce(_) | Op::Box | Op::Unbox(_) => Form::Values,
+        Op::ArrayNew(_) | Op::ArrayGet | Op::ArraySet | Op::ArrayLength => Form::Values,
+        Op::Cell | Op::CellGet | Op::CellSet => Form::Values,
     }
 }
 
@@ -233,7 +245,12 @@ fn primitive(g: &Around<'_>, mode: Mode, p: Primitive) -> Result<Vec<Instr>, Fai
         Primitive::Concatenate => {
             Ok(made(g, mode, Kind::String, Instr::CallBuiltIn(BuiltIn::Concat))?)
         }
-        _ => Err(Failure::Other),
+        Primitive::Shift(..) | Primitive::Negate(_) => Err(Failure::Other),
+        Primitive::Complement(_) | Primitive::Convert(..) => Err(Failure::Other),
+        Primitive::Not | Primitive::Equal | Primitive::NotEqual => Err(Failure::Other),
+        Primitive::Same | Primitive::NotSame => Err(Failure::Other),
+        Primitive::StringLength | Primitive::CharAt | Primitive::Substring => Err(Failure::Other),
+        Primitive::IsEmpty | Primitive::CompareTo => Err(Failure::Other),
     }
 }
 
@@ -253,7 +270,13 @@ pub(crate) fn op_code(
         Op::Call(m) => call(g, mode, m),
         Op::Primitive(p) => primitive(g, mode, p),
         Op::Run(_) => Ok(done(g, mode, Instr::CallBuiltIn(BuiltIn::Print))?),
-        _ => Err(Failure::Other),
+        Op::Get(_) | Op::Set(_) | Op::LazyGet(_) | Op::Module(_) => Err(Failure::Other),
+        Op::New(_) | Op::NewInner(_) | Op::Super(..) | Op::Direct(_) => Err(Failure::Other),
+        Op::Static(..) | Op::GetStatic(..) | Op::SetStatic(..) => Err(Failure::Other),
+        Op::Force | Op::Throw | Op::Exit(_) => Err(Failure::Other),
+        Op::IsA(_) | Op::Cast(_) | Op::Coerce(_) | Op::Box | Op::Unbox(_) => Err(Failure::Other),
+        Op::ArrayNew(_) | Op::ArrayGet | Op::ArraySet | Op::ArrayLength => Err(Failure::Other),
+        Op::Cell | Op::CellGet | Op::CellSet => Err(Failure::Other),
     }
 }
 

@@ -153,7 +153,11 @@ fn fits(entry: &PoolEntry) -> bool
         PoolEntry::Utf8(units) => are_units(units.as_slice()),
         PoolEntry::Integer(n) => fits_int(*n),
         PoolEntry::Long(n) => fits_long(*n),
-        _ => true,
+        PoolEntry::Float(_) | PoolEntry::Double(_) | PoolEntry::Second => true,
+        PoolEntry::Class(_) | PoolEntry::Str(_) | PoolEntry::MethodType(_) => true,
+        PoolEntry::Fieldref(..) | PoolEntry::Methodref(..) => true,
+        PoolEntry::InterfaceMethodref(..) | PoolEntry::NameAndType(..) => true,
+        PoolEntry::InvokeDynamic(..) | PoolEntry::MethodHandle(..) => true,
     }
 }
 

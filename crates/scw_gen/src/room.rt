@@ -97,7 +97,14 @@ fn of_op(g: &Around<'_>, mode: Mode, op: Op, t: TypeId) -> u64
         Op::Local(_) => of_given(mode, width_at(g, t)),
         Op::SetLocal(_) | Op::Run(_) => of_given(mode, 1),
         Op::Call(m) => of_call(g, mode, m),
-        _ => 0,
+        Op::Primitive(_) => 0,
+        Op::Get(_) | Op::Set(_) | Op::LazyGet(_) | Op::Module(_) => 0,
+        Op::New(_) | Op::NewInner(_) | Op::Super(..) | Op::Direct(_) => 0,
+        Op::Static(..) | Op::GetStatic(..) | Op::SetStatic(..) => 0,
+        Op::Force | Op::Throw | Op::Exit(_) => 0,
+        Op::IsA(_) | Op::Cast(_) | Op::Coerce(_) | Op::Box | Op::Unbox(_) => 0,
+        Op::ArrayNew(_) | Op::ArrayGet | Op::ArraySet | Op::ArrayLength => 0,
+        Op::Cell | Op::CellGet | Op::CellSet => 0,
     }
 }
 

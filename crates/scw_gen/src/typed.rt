@@ -91,7 +91,14 @@ fn mark_behind_op(known: &mut Vec<Known>, op: Op)
 {
     match op {
         Op::SetLocal(x) => mark(known, x),
-        _ => {}
+        Op::Literal(_) | Op::Local(_) | Op::Call(_) | Op::Primitive(_) | Op::Run(_) => {}
+        Op::Get(_) | Op::Set(_) | Op::LazyGet(_) | Op::Module(_) => {}
+        Op::New(_) | Op::NewInner(_) | Op::Super(..) | Op::Direct(_) => {}
+        Op::Static(..) | Op::GetStatic(..) | Op::SetStatic(..) => {}
+        Op::Force | Op::Throw | Op::Exit(_) => {}
+        Op::IsA(_) | Op::Cast(_) | Op::Coerce(_) | Op::Box | Op::Unbox(_) => {}
+        Op::ArrayNew(_) | Op::ArrayGet | Op::ArraySet | Op::ArrayLength => {}
+        Op::Cell | Op::CellGet | Op::CellSet => {}
     }
 }
 

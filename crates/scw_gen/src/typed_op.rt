@@ -228,7 +228,12 @@ fn kind_of_primitive(o: Primitive, kinds: &[Kind]) -> Option<Kind>
         }
         Primitive::Logic(l) => kind_of_logic(l, kinds),
         Primitive::Concatenate => kind_of_joined(kinds),
-        _ => None,
+        Primitive::Shift(..) | Primitive::Negate(_) => None,
+        Primitive::Complement(_) | Primitive::Convert(..) => None,
+        Primitive::Not | Primitive::Equal | Primitive::NotEqual => None,
+        Primitive::Same | Primitive::NotSame => None,
+        Primitive::StringLength | Primitive::CharAt | Primitive::Substring => None,
+        Primitive::IsEmpty | Primitive::CompareTo => None,
     }
 }
 
@@ -258,6 +263,12 @@ pub(crate) fn kind_of_op(
         Op::Call(m) => kind_of_call(g, kinds, m),
         Op::Primitive(o) => there(kind_of_primitive(o, kinds)),
         Op::Run(_) => there(taking(&[Kind::String], kinds, Kind::Unit)),
-        _ => Err(Failure::Other),
+        Op::Get(_) | Op::Set(_) | Op::LazyGet(_) | Op::Module(_) => Err(Failure::Other),
+        Op::New(_) | Op::NewInner(_) | Op::Super(..) | Op::Direct(_) => Err(Failure::Other),
+        Op::Static(..) | Op::GetStatic(..) | Op::SetStatic(..) => Err(Failure::Other),
+        Op::Force | Op::Throw | Op::Exit(_) => Err(Failure::Other),
+        Op::IsA(_) | Op::Cast(_) | Op::Coerce(_) | Op::Box | Op::Unbox(_) => Err(Failure::Other),
+        Op::ArrayNew(_) | Op::ArrayGet | Op::ArraySet | Op::ArrayLength => Err(Failure::Other),
+        Op::Cell | Op::CellGet | Op::CellSet => Err(Failure::Other),
     }
 }

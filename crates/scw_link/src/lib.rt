@@ -28,8 +28,3 @@ mod units;
 pub use launch::has_main;
 pub use laws::sizes_are_those_of_the_bytes;
 pub use linking::link;
-
-#[cfg(test)]
-mod test_files;
-#[cfg(test)]
-mod tests;

@@ -1,23 +1,20 @@
 -- The class file of a program, read back and loaded.
-use Rattle.std.proofs.Common.{◌≡◌, ℕ, zero, suc, List, [], ◌∷◌, Some, Ok, Err, refl, sym, ap, ◌∙◌, subst, true, false}
+use Rattle.std.proofs.Common.{◌≡◌, ℕ, zero, suc, List, [], ◌∷◌, Some, Ok, Err, refl, sym, ap, ◌∙◌, subst}
 use Rattle.std.proofs.lemmas.Bool.{false≢true}
-use Rattle.scw_text.specs.declared.number.SymId.{SymId}
 use Rattle.scw_classfile.specs.declared.class_file.ClassFile.{ClassFile}
 use Rattle.scw_classfile.specs.declared.class_file.FileOut.{FileOut}
 use Rattle.scw_classfile.specs.declared.fault.ClassRefusal.{ClassRefusal}
 use Rattle.scw_classfile.specs.Format.{class}
 use Rattle.scw_classfile.specs.ReadClass.{ClassBytes, IsWritable, read_class}
 use Rattle.scw_classfile.proofs.FormatLemmas.{class_again}
-use Rattle.scw_core.specs.Entry.{IsEntry, main_of}
 use Rattle.scw_core.specs.Program as core
 use Rattle.scw_link.specs.Linked.{has_main, linked}
 use Rattle.scw_machine.specs.Load as machine
 use Rattle.scw_machine.specs.Load.{AreFilesOf, IsBad, IsLoaded, first, units_of}
 use Rattle.scw_machine.specs.Run.{Running}
 use Rattle.scw_back.specs.Back.{file_of_program}
-use Rattle.scw_back.specs.Same.{DoesTheSame, object_name}
+use Rattle.scw_back.specs.Same.{DoesTheSame}
 use Rattle.scw_run.specs.Load.{HasNoMain, IsMachineOf, files_of}
-use Rattle.scw_run.specs.declared.loading.Loaded.{Loaded}
 
 abbrev Alone : Type 0
 Alone = (c d : ClassFile) (bytes : List ℕ) → ClassBytes c bytes → ClassBytes d bytes → c ≡ d

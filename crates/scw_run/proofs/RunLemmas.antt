@@ -1,5 +1,5 @@
 -- What each answer of the machine says of the program.
-use Rattle.std.proofs.Common.{◌≡◌, ℕ, zero, suc, ◌+◌, ◌*◌, ◌≤◌, arith, List, [], Option, Some, None, refl, sym, ap, ◌∙◌, subst, true, false}
+use Rattle.std.proofs.Common.{◌≡◌, ℕ, ◌+◌, ◌≤◌, arith, List, [], Option, Some, None, refl, sym, ap, ◌∙◌, subst}
 use Rattle.std.proofs.lemmas.Bool.{true≢false}
 use Rattle.std.specs.Io.KnownBytes.{append_known}
 use Rattle.scw_text.specs.declared.number.SymId.{SymId}
@@ -11,17 +11,16 @@ use Rattle.scw_core.specs.Seen.{Covers, Seen}
 use Rattle.scw_core.proofs.SeenLemmas.{covers_further}
 use Rattle.scw_core.proofs.Systems.{later, later_covers_earlier}
 use Rattle.scw_frame.specs.declared.program.Program.{Program}
-use Rattle.scw_step.specs.Unlimited.{unlimited}
 use Rattle.scw_step.specs.declared.state.State.{State}
 use Rattle.scw_machine.specs.declared.end.End.{End}
 use Rattle.scw_machine.specs.declared.end.End.TheVariants as why
-use Rattle.scw_machine.specs.Course.{Course, Halt, course, going, halted, output_of, returned, stuck, uncaught}
+use Rattle.scw_machine.specs.Course.{Course, course, going, halted, output_of, stuck}
 use Rattle.scw_machine.specs.Load.{first, first_state}
 use Rattle.scw_machine.specs.Run as machine
 use Rattle.scw_machine.specs.Run.{Running}
-use Rattle.scw_machine.specs.Unlimited.{CameUnlimited, Passes, RanUnlimited}
+use Rattle.scw_machine.specs.Unlimited.{CameUnlimited, RanUnlimited}
 use Rattle.scw_back.specs.MachineSeen.{exception_at, machine_seen}
-use Rattle.scw_back.specs.Same.{DoesTheSame, is_stuck, machine_course, machine_of, machine_run}
+use Rattle.scw_back.specs.Same.{DoesTheSame, is_stuck, machine_of, machine_run}
 use Rattle.scw_back.proofs.Follow.{machine_system}
 use Rattle.scw_back.proofs.Whole.{course-later}
 use Rattle.scw_run.specs.Shows.{Breaks, Ends, GoesOn, Shows}

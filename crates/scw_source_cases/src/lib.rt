@@ -10,6 +10,8 @@ mod forms;
 #[cfg(test)]
 mod limits;
 #[cfg(test)]
+mod main_method;
+#[cfg(test)]
 mod program;
 #[cfg(test)]
 mod types;

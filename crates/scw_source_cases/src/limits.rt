@@ -65,49 +65,28 @@ fn are_methods(alloc: Global, methods: &[u8]) -> Result<bool, Fail> {
     Ok(is_read(alloc, &source)?)
 }
 
+/// Methods, whether a source is read that has them, and what that shows.
+#[rattlefmt::skip]
+const METHODS: [(&str, bool, &str); 10] = [
+    ("def f(): Int = 1; def main(args: Array[String]): Unit = 2", true, "a method may stand before it"),
+    ("def main(args: Array[String]): Unit = 2; def f(): Int = 1; def g(): Long = 1L", true, "others behind it"),
+    ("def f(): Int = 1", false, "it is needed"),
+    ("", false, "so there is a method"),
+    ("def main(args: Array[String]): Unit = 1; def main(args: Array[String]): Unit = 2", false, "there is one"),
+    ("def main(): Unit = 1", false, "it has its parameter"),
+    ("def main(a: Array[String]): Unit = 1", false, "with its name"),
+    ("def main(args: Array[Int]): Unit = 1", false, "and its type"),
+    ("def main(args: Array[String]): Int = 1", false, "and its result"),
+    ("def main(args: Array[String]): Unit = 1;", false, "a `;` stands between methods"),
+];
+
 #[test]
 fn one_method_is_main(rt: HostRuntime) -> Result<(), Fail> {
-    for (methods, want, shows) in [
-        (
-            b"def f(): Int = 1; def main(args: Array[String]): Unit = 2".as_slice(),
-            true,
-            "a method may stand before it",
-        ),
-        (
-            b"def main(args: Array[String]): Unit = 2; def f(): Int = 1; def g(): Long = 1L",
-            true,
-            "others behind it",
-        ),
-        (b"def f(): Int = 1", false, "it is needed"),
-        (b"", false, "so there is a method"),
-        (
-            b"def main(args: Array[String]): Unit = 1; def main(args: Array[String]): Unit = 2",
-            false,
-            "there is one",
-        ),
-        (b"def main(): Unit = 1", false, "it has its parameter"),
-        (
-            b"def main(a: Array[String]): Unit = 1",
-            false,
-            "with its name",
-        ),
-        (
-            b"def main(args: Array[Int]): Unit = 1",
-            false,
-            "and its type",
-        ),
-        (
-            b"def main(args: Array[String]): Int = 1",
-            false,
-            "and its result",
-        ),
-        (
-            b"def main(args: Array[String]): Unit = 1;",
-            false,
-            "a `;` stands between methods",
-        ),
-    ] {
-        assert!(rt; are_methods(rt.alloc(), methods)? == want, "{shows}");
+    for (methods, want, shows) in METHODS {
+        assert!(rt;
+            are_methods(rt.alloc(), methods.as_bytes())? == want,
+            "{shows}"
+        );
     }
     Ok(())
 }

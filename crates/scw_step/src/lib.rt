@@ -23,8 +23,6 @@ mod state;
 mod stop;
 mod string_method;
 mod subtype;
-#[cfg(test)]
-mod tests;
 mod text;
 mod throwable;
 mod unwind;

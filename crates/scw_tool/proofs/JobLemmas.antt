@@ -13,7 +13,8 @@ use Rattle.scw_small.specs.Says.{SaysProgram}
 use Rattle.scw_tool.specs.declared.answer.Answer.{Answer}
 use Rattle.scw_tool.specs.declared.answer.Answer.TheVariants as answer
 use Rattle.scw_tool.specs.declared.words.Mode.TheVariants.{Run, Dis}
-use Rattle.scw_tool.specs.Job.{Edge, Comes, Went, WentShown}
+use Rattle.scw_tool.specs.Edge.{Edge}
+use Rattle.scw_tool.specs.Job.{Comes, Went, WentShown}
 use Rattle.scw_tool.specs.Read.{HasRead}
 use Rattle.scw_tool.specs.Show.{IsClass, most_class}
 use Rattle.scw_tool.specs.Source.{IsSource}

@@ -1,6 +1,8 @@
 -- What the top call says of each answer.
 use Rattle.std.proofs.Common.{◌≡◌, ◌≢◌, ◌⊎◌, inl, inr, ◌↔◌, ℕ, ◌≤◌, Bool, false, true, ◌||◌, nat_eq, List, [], length, Option, Some, None, Ok, nat_lt, refl, sym, ap, subst, ◌∙◌, IsTrue, IfSome}
+use Rattle.std.specs.Option.{option_map}
 use Rattle.std.specs.Prelude.{IsSome, IsNone}
+use Rattle.std.specs.Str.{chars}
 use Rattle.std.proofs.lemmas.Bool.{false≢true, le-ltb}
 use Rattle.scw_outside.specs.Causes.{Rose}
 use Rattle.scw_outside.specs.Content.{Files, Reads, HasName, IsFront}
@@ -21,17 +23,19 @@ use Rattle.scw_back.specs.Back.{file_of_program}
 use Rattle.scw_tool.specs.declared.answer.Answer.{Answer}
 use Rattle.scw_tool.specs.declared.answer.Answer.TheVariants.{Ran, Shown, Words, ReadFault, ShowFault, BadClass, TooLarge, NoMemory, NotBuilt}
 use Rattle.scw_tool.specs.declared.answer.Excess.{Excess}
+use Rattle.scw_tool.specs.declared.answer.Run.{Run}
 use Rattle.scw_tool.specs.declared.words.Mode.{Mode}
 use Rattle.scw_tool.specs.declared.words.Mode.TheVariants as mode
 use Rattle.scw_tool.specs.Executed.{CutOff, Executed, Finished, IsReady, RanSo, Stopped}
-use Rattle.scw_tool.specs.Job.{Edge, Comes, has_run, is_judged}
+use Rattle.scw_tool.specs.Edge.{Edge, HasRoom, IsServed}
+use Rattle.scw_tool.specs.Job.{Comes, FailsToRead, RunsTo, has_run, is_judged, is_status_in}
 use Rattle.scw_tool.specs.Machine.{limited_course, status_of_end}
 use Rattle.scw_tool.specs.Read.{HasRead}
 use Rattle.scw_tool.specs.Show as show
 use Rattle.scw_tool.specs.Source.{IsSource, IsTooLarge, Judged}
 use Rattle.scw_tool.specs.Status.{number_of, files_of, steps_of}
-use Rattle.scw_tool.specs.Words.{job_name, IsMode}
-use Rattle.scw_tool.proofs.CompleteLemmas.{over_so}
+use Rattle.scw_tool.specs.Words.{job_name, job_of, IsMode}
+use Rattle.scw_tool.proofs.CompleteLemmas.{all_taken, over_so}
 
 some_not_none : {A : Type 0} (o : Option A) (n : A) → o ≡ Some n → IsNone o → ⊥
 some_not_none None n h k = cc
@@ -60,10 +64,15 @@ same_name : (words : List (List ℕ)) (m n : List ℕ) → job_name words ≡ So
 same_name words m n h k = let both : Some n ≡ Some m = sym k ∙ h in cc
 
 -- the bytes that were read are those of a source that is ready
-ready_bytes : (words : List (List ℕ)) (told : Option Files) (calm : Bool) (room : Option ℕ) (source : List ℕ) (ready : IsReady words told calm room) → HasRead mode.Run words told source → ready.source ≡ source
-ready_bytes words told calm room source ready read =
-    let name : read.name ≡ ready.read.name = same_name words ready.read.name read.name ready.read.job read.job in
-    read_once told 1048577 ready.read.name ready.source source ready.has ready.read.read (subst (λ (n : List ℕ). Reads told n 1048577 source) name read.read)
+ready_bytes : (e : Edge) (source : List ℕ) (ready : IsReady e) → HasRead mode.Run e.words e.told source → ready.source ≡ source
+ready_bytes e source ready read =
+    let name : read.name ≡ ready.read.name = same_name e.words ready.read.name read.name ready.read.job read.job in
+    read_once e.told 1048577 ready.read.name ready.source source ready.has ready.read.read (subst (λ (n : List ℕ). Reads e.told n 1048577 source) name read.read)
+
+-- a store that serves and tells the file doesn't fail to read it
+never_fails : (e : Edge) (name : List ℕ) → IsServed e → HasName e.told name → job_name e.words ≡ Some name → FailsToRead e → ⊥
+never_fails e name (inl calm) has job f = f.not_calm calm (subst (HasName e.told) (same_name e.words f.name name f.job job) has)
+never_fails e name (inr quiet) has job f = quiet f.rose
 
 -- ---- the words are of one mode
 
@@ -74,10 +83,10 @@ not_run : (words : List (List ℕ)) → IsMode words mode.Run → IsMode words m
 not_run words h k = other_mode words mode.Run mode.Dis (λ e. cc) h k
 
 -- the class that was read is the class of a file that is ready
-same_class : (words : List (List ℕ)) (told : Option Files) (calm : Bool) (room : Option ℕ) (c d : ClassFile) → show.IsReadyClass words told calm room c → show.IsClass words told d → c ≡ d
-same_class words told calm room c d ready is =
-    let name : is.read.name ≡ ready.read.name = same_name words ready.read.name is.read.name ready.read.job is.read.job in
-    let bytes : is.source ≡ ready.source = read_once told 16777217 ready.read.name is.source ready.source ready.has (subst (λ (n : List ℕ). Reads told n 16777217 is.source) name is.read.read) ready.read.read in
+same_class : (e : Edge) (c d : ClassFile) → show.IsReadyClass e c → show.IsClass e.words e.told d → c ≡ d
+same_class e c d ready is =
+    let name : is.read.name ≡ ready.read.name = same_name e.words ready.read.name is.read.name ready.read.job is.read.job in
+    let bytes : is.source ≡ ready.source = read_once e.told 16777217 ready.read.name is.source ready.source ready.has (subst (λ (n : List ℕ). Reads e.told n 16777217 is.source) name is.read.read) ready.read.read in
     is.only c (subst (λ (b : List ℕ). ClassBytes c b) (sym bytes) ready.bytes)
 
 -- ---- what a machine's answer says, by its status
@@ -149,6 +158,16 @@ module _ (words : List (List ℕ)) (told : Option Files) (p : Program) (is : IsS
   has_status why.Frames s h = false≢true (sym h)
   has_status why.SinkFault s h = false≢true (sym h)
   has_status (why.Stuck place) s h = s.shows
+
+  -- which is one of `run`
+  run_status : (end : End) → So end → is_status_in mode.Run (status_of_end end) ≡ true
+  run_status why.Ended s = refl
+  run_status (why.Thrown r) s = refl
+  run_status why.Steps s = refl
+  run_status (why.HeapFull need) s = refl
+  run_status why.Frames s = refl
+  run_status why.SinkFault s = refl
+  run_status (why.Stuck place) s = absurd s.shows
 
 -- the statuses of a machine's answers
 abbrev is_end : ℕ → Bool
@@ -396,37 +415,49 @@ module _ (e : Edge) where
   no_room_is None left n h le f = cc
   no_room_is (Some r) left n h le f = let same : left ≡ r = cc in f (subst (λ (k : ℕ). n ≤ k) same le)
 
-  module _ (ready : IsReady e.words e.told e.is_calm e.room) where
+  -- where there is room, or `out` didn't fail, no text is cut
+  never_cut : (n : ℕ) → HasRoom e n → Rose e.out_before e.out_after → IfSome e.room (λ r. n ≤ r → ⊥) → ⊥
+  never_cut n (inl room) rose f = no_room_is e.room room.0 n room.1 room.2 f
+  never_cut n (inr quiet) rose f = quiet rose
+
+  module _ (ready : IsReady e) where
     -- the program of the source that was read is that of the source that is ready
     same_program : (p : Program) → IsSource e.words e.told p → ready.program ≡ p
-    same_program p is = is.only ready.program (subst (λ (b : List ℕ). SaysProgram b ready.program) (ready_bytes e.words e.told e.is_calm e.room is.source ready is.read) ready.says)
+    same_program p is = is.only ready.program (subst (λ (b : List ℕ). SaysProgram b ready.program) (ready_bytes e is.source ready is.read) ready.says)
 
     same_made : (p : Program) (c : ClassFile) → IsSource e.words e.told p → file_of_program p ≡ Some (Ok c) → ready.class ≡ c
     same_made p c is made =
         let both : Some (Ok ready.class) ≡ Some (Ok c) = sym ready.made ∙ ap file_of_program (same_program p is) ∙ made in cc
 
-    over_is : (p : Program) (end : End) (m : Running) (files : List FileOut) → IsSource e.words e.told p → RanSo p end m files e.taken_before e.taken_after e.room → (status_of_end end ≡ 0) ⊎ (status_of_end end ≡ 7)
-    over_is p end m files is s =
-        let same = same_made p s.class is s.compiled.made in
-        over_so s.class ready.rows ready.within ready.halt ready.state ready.out (subst (λ (c : ClassFile). limited_course c ready.rows ≡ halted ready.halt ready.state ready.out) same ready.ends) ready.over ready.left ready.enough end m e.taken_before e.taken_after e.room ready.room_is s.ran
+    -- the run of the class that was made ends as that of the class that is ready
+    module _ (r : Run) (c : RunsTo e r) where
+      ends_so : limited_course c.so.class ready.rows ≡ halted ready.halt ready.state ready.out
+      ends_so =
+          subst (λ (k : ClassFile). limited_course k ready.rows ≡ halted ready.halt ready.state ready.out) (same_made c.program c.so.class c.is c.so.compiled.made) ready.ends
+
+      not_cut : HasRoom e (length ready.out) → r.end ≡ why.SinkFault → ⊥
+      not_cut (inl room) h = all_taken c.so.class ready.rows ready.within ready.halt ready.state ready.out ends_so ready.over r.end r.machine e.taken_before e.taken_after e.room c.so.ran room.0 room.1 room.2 h
+      not_cut (inr quiet) h = quiet (c.cause h)
+
+      over_is : (status_of_end r.end ≡ 0) ⊎ (status_of_end r.end ≡ 7)
+      over_is = over_so c.so.class ready.rows ready.within ready.halt ready.state ready.out ends_so ready.over r.end r.machine e.taken_before e.taken_after e.room c.so.ran (not_cut ready.room)
 
     one_of : (n : ℕ) → (n ≡ 0) ⊎ (n ≡ 7) → (n ≡ 0) ⊎ (n ≡ 7) ⊎ (n ≡ 12)
     one_of n (inl h) = inl h
     one_of n (inr h) = inr (inl h)
 
     pub complete_is : (a : Answer) → Comes e a → (number_of a ≡ 0) ⊎ (number_of a ≡ 7) ⊎ (number_of a ≡ 12)
-    complete_is (Ran r) c = one_of (status_of_end r.end) (over_is c.program r.end r.machine r.files c.is c.so)
+    complete_is (Ran r) c = one_of (status_of_end r.end) (over_is r c)
     complete_is Shown c = inl refl
     complete_is Words c = absurd (let both : None ≡ Some ready.read.name = sym c.0 ∙ ready.read.job in cc)
-    complete_is ReadFault c =
-        absurd (c.0.not_calm ready.calm (subst (HasName e.told) (same_name e.words c.0.name ready.read.name c.0.job ready.read.job) ready.has))
+    complete_is ReadFault c = absurd (never_fails e ready.read.name ready.served ready.has ready.read.job c.0)
     complete_is ShowFault c = absurd (not_run e.words ready.read.is_mode c.cut.is.read.is_mode)
     complete_is (BadClass r) c = absurd (not_run e.words ready.read.is_mode c.0.read.is_mode)
     complete_is (TooLarge x) c =
         absurd (let made = sym ready.made ∙ ap file_of_program (same_program c.0.program c.0.is) ∙ c.0.excess.made in cc)
     complete_is NoMemory c = inr (inr refl)
     complete_is NotBuilt c =
-        let bytes = ready_bytes e.words e.told e.is_calm e.room c.0.source ready c.0.read in
+        let bytes = ready_bytes e c.0.source ready c.0.read in
         absurd (c.0.none ready.program (subst (λ (b : List ℕ). SaysProgram b ready.program) bytes ready.says))
 
   -- the bytes of a class of a length that is taken aren't refused
@@ -437,15 +468,14 @@ module _ (e : Edge) where
       let none : show.class_refusal bytes ≡ None = rw (long, read) refl in
       let both : Some r ≡ None = sym refused ∙ none in cc
 
-  pub complete_text_is : (a : Answer) → Comes e a → (class : ClassFile) → show.IsReadyClass e.words e.told e.is_calm e.room class → (number_of a ≡ 0) ⊎ (number_of a ≡ 12)
+  pub complete_text_is : (a : Answer) → Comes e a → (class : ClassFile) → show.IsReadyClass e class → (number_of a ≡ 0) ⊎ (number_of a ≡ 12)
   complete_text_is (Ran r) c class ready = absurd (not_run e.words c.is.read.is_mode ready.read.is_mode)
   complete_text_is Shown c class ready = inl refl
   complete_text_is Words c class ready = absurd (let both : None ≡ Some ready.read.name = sym c.0 ∙ ready.read.job in cc)
-  complete_text_is ReadFault c class ready =
-      absurd (c.0.not_calm ready.calm (subst (HasName e.told) (same_name e.words c.0.name ready.read.name c.0.job ready.read.job) ready.has))
+  complete_text_is ReadFault c class ready = absurd (never_fails e ready.read.name ready.served ready.has ready.read.job c.0)
   complete_text_is ShowFault c class ready =
-      let same = same_class e.words e.told e.is_calm e.room class c.cut.made ready c.cut.is in
-      absurd (no_room_is e.room ready.left (length (show.class_text c.cut.made)) ready.room_is (subst (λ (k : ClassFile). length (show.class_text k) ≤ ready.left) same ready.enough) c.no_room)
+      let same = same_class e class c.cut.made ready c.cut.is in
+      absurd (never_cut (length (show.class_text c.cut.made)) (subst (λ (k : ClassFile). HasRoom e (length (show.class_text k))) same ready.room) c.rose c.no_room)
   complete_text_is (BadClass r) c class ready =
       let name = same_name e.words ready.read.name c.0.read.name ready.read.job c.0.read.job in
       let bytes = read_once e.told 16777217 ready.read.name c.0.source ready.source ready.has (subst (λ (n : List ℕ). Reads e.told n 16777217 c.0.source) name c.0.read.read) ready.read.read in
@@ -465,6 +495,41 @@ module _ (e : Edge) where
   nothing_run_is (TooLarge x) c m = (refl, refl)
   nothing_run_is NoMemory c m = (refl, refl)
   nothing_run_is NotBuilt c m = (refl, refl)
+
+  -- ---- the statuses of each mode
+
+  no_words : (m : Mode) → IsMode e.words m → job_name e.words ≡ None → ⊥
+  no_words m h k = by (job_of e.words) h k
+    where
+      by : (o : Option (Mode × List ℕ)) → option_map (λ j. j.0) o ≡ Some m → option_map chars (option_map (λ j. j.1) o) ≡ None → ⊥
+      by None h k = cc
+      by (Some j) h k = cc
+
+  run_statuses : (a : Answer) → Comes e a → IsMode e.words mode.Run → IsTrue (is_status_in mode.Run (number_of a))
+  run_statuses (Ran r) c m = run_status e.words e.told c.program c.is r.machine r.files e.taken_before e.taken_after e.room r.end c.so
+  run_statuses Shown c m = refl
+  run_statuses Words c m = absurd (no_words mode.Run m c.0)
+  run_statuses ReadFault c m = refl
+  run_statuses ShowFault c m = refl
+  run_statuses (BadClass r) c m = absurd (not_run e.words m c.0.read.is_mode)
+  run_statuses (TooLarge x) c m = refl
+  run_statuses NoMemory c m = refl
+  run_statuses NotBuilt c m = refl
+
+  dis_statuses : (a : Answer) → Comes e a → IsMode e.words mode.Dis → IsTrue (is_status_in mode.Dis (number_of a))
+  dis_statuses (Ran r) c m = absurd (not_run e.words c.is.read.is_mode m)
+  dis_statuses Shown c m = refl
+  dis_statuses Words c m = absurd (no_words mode.Dis m c.0)
+  dis_statuses ReadFault c m = refl
+  dis_statuses ShowFault c m = refl
+  dis_statuses (BadClass r) c m = refl
+  dis_statuses (TooLarge x) c m = absurd (not_run e.words c.0.is.read.is_mode m)
+  dis_statuses NoMemory c m = refl
+  dis_statuses NotBuilt c m = absurd (not_run e.words c.0.read.is_mode m)
+
+  pub statuses_are : (a : Answer) → Comes e a → (m : Mode) → IsMode e.words m → IsTrue (is_status_in m (number_of a))
+  statuses_are a c mode.Run h = run_statuses a c h
+  statuses_are a c mode.Dis h = dis_statuses a c h
 
   -- ---- files and steps
 

@@ -1,5 +1,5 @@
 -- What a call with `run FILE` came to where a class file was run.
-use Rattle.std.specs.Prelude.{◌≡◌, ℕ, ◌≤◌, Bool, IsTrue, List, length, Option, Some, Ok}
+use Rattle.std.specs.Prelude.{◌≡◌, ℕ, ◌≤◌, List, length, Option, Some, Ok}
 use Rattle.scw_text.specs.declared.number.SymId.{SymId}
 use Rattle.scw_outside.specs.Content.{Files, HasName}
 use Rattle.scw_classfile.specs.declared.class_file.ClassFile.{ClassFile}
@@ -16,6 +16,7 @@ use Rattle.scw_back.specs.Back.{file_of_program}
 use Rattle.scw_run.specs.Load.{IsCompiled}
 use Rattle.scw_run.specs.Shows.{Breaks, Ends, GoesOn, Shows}
 use Rattle.scw_tool.specs.declared.words.Mode.TheVariants.{Run}
+use Rattle.scw_tool.specs.Edge.{Edge, HasRoom, IsServed}
 use Rattle.scw_tool.specs.Machine.{limited_course, loaded, main_program, most_rows, status_of_end}
 use Rattle.scw_tool.specs.Read.{HasRead}
 use Rattle.scw_tool.specs.Source.{IsMain, IsSource}
@@ -77,13 +78,13 @@ IsOver stuck = ⊥
 IsOver (full need) = ⊥
 IsOver crowded = ⊥
 
--- The words name a file that a calm store has and that is a source with a class file, whose run ends within the limits, and
--- there is room for all that it puts.
-pub record IsReady (words : List (List ℕ)) (told : Option Files) (is_calm : Bool) (room : Option ℕ) : Type 0 where
+-- The words name a file that the store tells and that is a source with a class file, whose run ends within the limits; the
+-- store serves, and there is room for all that the run puts.
+pub record IsReady (e : Edge) : Type 0 where
   pub source : List ℕ
-  pub read : HasRead Run words told source
-  pub has : HasName told read.name
-  pub calm : IsTrue is_calm
+  pub read : HasRead Run e.words e.told source
+  pub has : HasName e.told read.name
+  pub served : IsServed e
   pub program : Program
   pub says : SaysProgram source program
   pub class : ClassFile
@@ -95,6 +96,4 @@ pub record IsReady (words : List (List ℕ)) (told : Option Files) (is_calm : Bo
   pub out : List ℕ
   pub ends : limited_course class rows ≡ halted halt state out
   pub over : IsOver halt
-  pub left : ℕ
-  pub room_is : room ≡ Some left
-  pub enough : length out ≤ left
+  pub room : HasRoom e (length out)

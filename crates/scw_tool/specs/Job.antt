@@ -2,7 +2,7 @@
 use Rattle.std.specs.Prelude.{◌≡◌, ℕ, ◌≤◌, Bool, ◌||◌, IsTrue, List, length, Option, Some, None, IsSome, IfSome, nat_eq}
 use Rattle.std.specs.Io.KnownBytes.{append_known}
 use Rattle.scw_outside.specs.Causes.{Rose}
-use Rattle.scw_outside.specs.Content.{Files, HasName}
+use Rattle.scw_outside.specs.Content.{HasName}
 use Rattle.scw_outside.specs.Puts.{TookPart}
 use Rattle.scw_classfile.specs.declared.class_file.ClassFile.{ClassFile}
 use Rattle.scw_core.specs.Program.{Program}
@@ -10,6 +10,9 @@ use Rattle.scw_machine.specs.declared.end.End.TheVariants as why
 use Rattle.scw_tool.specs.declared.answer.Answer.{Answer}
 use Rattle.scw_tool.specs.declared.answer.Answer.TheVariants.{Ran, Shown, Words, ReadFault, ShowFault, BadClass, TooLarge, NoMemory, NotBuilt}
 use Rattle.scw_tool.specs.declared.answer.Run.{Run}
+use Rattle.scw_tool.specs.declared.words.Mode.{Mode}
+use Rattle.scw_tool.specs.declared.words.Mode.TheVariants as mode
+use Rattle.scw_tool.specs.Edge.{Edge}
 use Rattle.scw_tool.specs.Executed.{RanSo}
 use Rattle.scw_tool.specs.Show as show
 use Rattle.scw_tool.specs.Show.{class_text, ShownInPart, IsNoClass}
@@ -17,19 +20,6 @@ use Rattle.scw_tool.specs.Source.{IsExcess, IsNoSource, IsSource, IsTooLarge}
 use Rattle.scw_tool.specs.Words.{job_name}
 
 -- ---- when each answer comes
-
--- what a call began and ended with
-pub record Edge : Type 0 where
-  pub words : List (List ℕ)
-  pub told : Option Files
-  pub is_calm : Bool
-  pub store_before : ℕ
-  pub store_after : ℕ
-  pub room : Option ℕ
-  pub out_before : ℕ
-  pub out_after : ℕ
-  pub taken_before : Option (List ℕ)
-  pub taken_after : Option (List ℕ)
 
 -- the words name a file, which the store failed to read
 pub record FailsToRead (e : Edge) : Type 0 where
@@ -97,3 +87,8 @@ has_run s = nat_eq s 0 || nat_eq s 4 || nat_eq s 7 || nat_eq s 8 || nat_eq s 9 |
 -- whether the bytes that were read were judged, by the status
 abbrev pub is_judged : ℕ → Bool
 is_judged s = has_run s || nat_eq s 6 || nat_eq s 14
+
+-- whether a job of the mode may end with the status: what was read was judged, nothing was read, or memory ran out
+abbrev pub is_status_in : Mode → ℕ → Bool
+is_status_in mode.Run s = is_judged s || nat_eq s 3 || nat_eq s 12
+is_status_in mode.Dis s = show.is_judged_class s || nat_eq s 3 || nat_eq s 12

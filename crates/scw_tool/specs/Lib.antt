@@ -3,6 +3,7 @@ pub mod Words
 pub mod JobView
 pub mod Rules
 pub mod Read
+pub mod Edge
 pub mod Source
 pub mod Executed
 pub mod Show

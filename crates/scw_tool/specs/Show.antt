@@ -1,5 +1,5 @@
 -- What a call with `dis FILE` came to.
-use Rattle.std.specs.Prelude.{◌≡◌, ◌↔◌, ℕ, ◌≤◌, Bool, ◌||◌, IsTrue, List, length, Option, Some, None, IsSome, Result, Ok, Err, if◌then◌else◌, nat_lt, nat_eq, encode_utf8_all}
+use Rattle.std.specs.Prelude.{◌≡◌, ◌↔◌, ℕ, ◌≤◌, Bool, ◌||◌, List, length, Option, Some, None, IsSome, Result, Ok, Err, if◌then◌else◌, nat_lt, nat_eq, encode_utf8_all}
 use Rattle.std.specs.Io.KnownBytes.{append_known}
 use Rattle.scw_outside.specs.Content.{Files, HasName}
 use Rattle.scw_outside.specs.Puts.{TookPart}
@@ -8,6 +8,7 @@ use Rattle.scw_classfile.specs.declared.fault.ClassRefusal.{ClassRefusal}
 use Rattle.scw_classfile.specs.ReadClass.{read_class, ClassBytes}
 use Rattle.scw_dis.specs.Class.{text_of}
 use Rattle.scw_tool.specs.declared.words.Mode.TheVariants.{Dis}
+use Rattle.scw_tool.specs.Edge.{Edge, HasRoom, IsServed}
 use Rattle.scw_tool.specs.Read.{HasRead}
 
 -- the bytes of the class's text
@@ -62,14 +63,12 @@ pub record JudgedClass (words : List (List ℕ)) (told : Option Files) (s : ℕ)
   pub read : HasRead Dis words told source
   pub exact : (s ≡ 11) ↔ IsSome (class_refusal source)
 
--- the words name a file that a calm store has and that is this class, and there is room for its text
-pub record IsReadyClass (words : List (List ℕ)) (told : Option Files) (is_calm : Bool) (room : Option ℕ) (c : ClassFile) : Type 0 where
+-- the words name a file that the store tells and that is this class; the store serves, and there is room for the class's text
+pub record IsReadyClass (e : Edge) (c : ClassFile) : Type 0 where
   pub source : List ℕ
-  pub read : HasRead Dis words told source
-  pub has : HasName told read.name
-  pub calm : IsTrue is_calm
+  pub read : HasRead Dis e.words e.told source
+  pub has : HasName e.told read.name
+  pub served : IsServed e
   pub short : length source ≤ most_class
   pub bytes : ClassBytes c source
-  pub left : ℕ
-  pub room_is : room ≡ Some left
-  pub enough : length (class_text c) ≤ left
+  pub room : HasRoom e (length (class_text c))

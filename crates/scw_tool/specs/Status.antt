@@ -13,7 +13,8 @@ use Rattle.scw_machine.specs.declared.end.End.TheVariants as why
 use Rattle.scw_tool.specs.declared.answer.Answer.{Answer}
 use Rattle.scw_tool.specs.declared.answer.Answer.TheVariants.{Ran, Shown, Words, ReadFault, ShowFault, BadClass, TooLarge, NoMemory, NotBuilt}
 use Rattle.scw_tool.specs.declared.answer.Excess.{Excess}
-use Rattle.scw_tool.specs.Job.{Comes, Edge}
+use Rattle.scw_tool.specs.Edge.{Edge}
+use Rattle.scw_tool.specs.Job.{Comes}
 use Rattle.scw_tool.specs.Machine.{status_of_end}
 use Rattle.scw_tool.specs.Rules.{rule_name}
 use Rattle.scw_tool.specs.Words.{job_file}

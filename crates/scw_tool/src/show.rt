@@ -1,7 +1,8 @@
 //! The text of a class file.
 
 ghost use Rattle.std.specs.Prelude.{◌≡◌, List, ℕ, Some, IfOk, OnErr, encode_utf8_all};
-ghost use Rattle.scw_tool.specs.Job.{Edge, Comes, WentShown};
+ghost use Rattle.scw_tool.specs.Edge.{Edge};
+ghost use Rattle.scw_tool.specs.Job.{Comes, WentShown};
 ghost use Rattle.scw_tool.specs.Words.{job_file, IsMode};
 ghost use Rattle.scw_tool.specs.declared.words.Mode.TheVariants.{Dis};
 

@@ -8,14 +8,16 @@ ghost use Rattle.scw_outside.specs.Content.{HasName};
 ghost use Rattle.scw_classfile.specs.declared.class_file.ClassFile.{ClassFile};
 ghost use Rattle.scw_core.specs.Seen as seen;
 ghost use Rattle.scw_core.specs.Types.{Name};
+ghost use Rattle.scw_tool.specs.Edge.{Edge};
 ghost use Rattle.scw_tool.specs.Executed.{CutOff, Executed, Finished, IsReady, Stopped};
-ghost use Rattle.scw_tool.specs.Job.{Comes, Edge, has_run, is_judged};
+ghost use Rattle.scw_tool.specs.Job.{Comes, has_run, is_judged, is_status_in};
 ghost use Rattle.scw_tool.specs.JobView.{seen_job};
 ghost use Rattle.scw_tool.specs.Show.{IsReadyClass, JudgedClass, Shown, ShownInPart, is_judged_class};
 ghost use Rattle.scw_tool.specs.Source.{IsTooLarge, Judged};
 ghost use Rattle.scw_tool.specs.Status.{IsStatus, SaysLine};
 ghost use Rattle.scw_tool.specs.Words.{job_file, job_name, job_of, IsMode};
 ghost use Rattle.scw_tool.specs.declared.answer.Excess.{Excess};
+ghost use Rattle.scw_tool.specs.declared.words.Mode.{Mode};
 ghost use Rattle.scw_tool.specs.declared.words.Mode.TheVariants.{Run, Dis};
 
 use crate::answer::{Answer, Outcome};
@@ -138,16 +140,18 @@ pub fn scw_main<S: Store, O: Sink, E: Sink>(
     ensures steps { has_run result.status ≡ false → result.steps ≡ 0 }
     ensures nothing_run { IsMode (map string_bytes words.now.items) Dis → (result.files ≡ []) × (result.steps ≡ 0) }
     ensures refusal { result.refusal ≡ None }
-    // The status is one of those that have a name. No clause but the next speaks of `err`, so its failure changes nothing else.
+    // The status is one of those that have a name. No clause but `said` speaks of `err`, so its failure changes nothing else.
     ensures known { IsStatus result.status }
+    // A job ends with a status of its mode: none of `run` is a bad class, and none of `dis` is too large, not built, or of a run.
+    ensures statuses { (m : Mode) → IsMode (map string_bytes words.now.items) m → IsTrue (is_status_in m result.status) }
     // The line of the answer, where `err` doesn't fail.
     ensures said { (Rose (E.fault_count err.old) (E.fault_count err.new) → ⊥) → SaysLine (record { words = map string_bytes words.now.items; told = S.told store.old; is_calm = S.is_calm store.old; store_before = S.fault_count store.old; store_after = S.fault_count store.new; room = O.room out.old; out_before = O.fault_count out.old; out_after = O.fault_count out.new; taken_before = O.taken out.old; taken_after = O.taken out.new }) result.status result.files result.steps (E.taken err.old) (E.taken err.new) }
     // The store's files are as before, and so is `out` where nothing was run or shown.
     ensures store { S.told store.new ≡ S.told store.old }
     ensures out { has_run result.status ≡ false → O.taken out.new ≡ O.taken out.old }
-    // A source in a calm store whose run ends within the limits, with room for all that it puts, is run to its end, and a class file, with room for its text, is shown, unless memory runs out.
-    ensures complete { IsReady (map string_bytes words.now.items) (S.told store.old) (S.is_calm store.old) (O.room out.old) → (result.status ≡ 0) ⊎ (result.status ≡ 7) ⊎ (result.status ≡ 12) }
-    ensures complete_text { (c : ClassFile) → IsReadyClass (map string_bytes words.now.items) (S.told store.old) (S.is_calm store.old) (O.room out.old) c → (result.status ≡ 0) ⊎ (result.status ≡ 12) }
+    // A source whose run ends within the limits is run to its end, and a class file is shown, unless memory runs out: where the store has the file, and is calm or doesn't fail in this call, and `out` has room, or doesn't fail in this call.
+    ensures complete { IsReady (record { words = map string_bytes words.now.items; told = S.told store.old; is_calm = S.is_calm store.old; store_before = S.fault_count store.old; store_after = S.fault_count store.new; room = O.room out.old; out_before = O.fault_count out.old; out_after = O.fault_count out.new; taken_before = O.taken out.old; taken_after = O.taken out.new }) → (result.status ≡ 0) ⊎ (result.status ≡ 7) ⊎ (result.status ≡ 12) }
+    ensures complete_text { (c : ClassFile) → IsReadyClass (record { words = map string_bytes words.now.items; told = S.told store.old; is_calm = S.is_calm store.old; store_before = S.fault_count store.old; store_after = S.fault_count store.new; room = O.room out.old; out_before = O.fault_count out.old; out_after = O.fault_count out.new; taken_before = O.taken out.old; taken_after = O.taken out.new }) c → (result.status ≡ 0) ⊎ (result.status ≡ 12) }
 {
     let job = job_of(words.as_slice());
     let answer = answer_to(alloc, job, store, out);

@@ -65,6 +65,9 @@ returns-clause-nothing_run g c = λ m. rw (c.into_outcome.ensures.files, c.into_
 pub returns-clause-known : goal.returns-clause-known
 returns-clause-known g c = record { answer = c.answer_to-answer.result; is = c.into_outcome.ensures.status }
 
+pub returns-clause-statuses : goal.returns-clause-statuses
+returns-clause-statuses g c = λ m h. rw c.into_outcome.ensures.status (top.statuses_are _ c.answer_to-answer.result (c.answer_to-answer.ensures.comes (map string_bytes c.args.words.now.items) (rw c.as_slice.ensures.value at c.job_of-job.ensures)) m h)
+
 pub returns-clause-out : goal.returns-clause-out
 returns-clause-out g c = λ h. top.out_is _ c.answer_to-answer.result (c.answer_to-answer.ensures.comes (map string_bytes c.args.words.now.items) (rw c.as_slice.ensures.value at c.job_of-job.ensures)) (ap has_run (sym c.into_outcome.ensures.status) ∙ h)
 

@@ -1,7 +1,7 @@
 //! Which method programs begin with that were written by hand.
 
-use crate::symbol::{ANY, ANY_REF, ARRAY, INT, STRING, UNIT};
-use crate::{
+use scw_core::symbol::{ANY, ANY_REF, ARRAY, INT, STRING, UNIT};
+use scw_core::{
     Access, BodyKind, ClassKind, CoreClass, CoreType, Erased, Head, Member, MemberKind, MethodId,
     Modifiers, OverridePair, Parameter, Path, Plain, PreludeSymbols, Program, SymKind, Table,
 };

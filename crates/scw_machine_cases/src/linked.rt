@@ -1,9 +1,9 @@
 //! One program of three class files, held against what `javap` shows of them.
 
-use crate::test_files::{BASE, MAIN, NAMED};
-use crate::{has_main, link};
+use crate::linked_files::{BASE, MAIN, NAMED};
 use scw_classfile::{ClassFile, read_class};
-use scw_frame::{Class, Operation, Program, Target, ValueKind};
+use scw_frame::{Class, Operation, Origin, Program, Target, ValueKind};
+use scw_link::{has_main, link};
 use scw_text::Units;
 use scw_value::Comparison;
 use sqlite_items::Items;
@@ -51,52 +51,71 @@ fn target(class: Option<&Class>, selector: usize) -> Option<Target> {
     *class?.targets.get(selector)?
 }
 
+/// The instruction at the place of the method.
+fn operation_at(alloc: Global, method: usize, place: usize) -> Result<Option<Operation>, Fail> {
+    Ok(operation(&program(alloc)?, method, place))
+}
+
+/// What a virtual call by the selector runs on an instance of the class.
+fn target_of(alloc: Global, class: usize, selector: usize) -> Result<Option<Target>, Fail> {
+    let program = program(alloc)?;
+    Ok(target(program.classes.get(class), selector))
+}
+
+/// How many classes, methods, switches and static fields there are, and how many fields the class of the object has.
+fn counts(alloc: Global) -> Result<([usize; 4], Option<u32>), Fail> {
+    let p = program(alloc)?;
+    let counts = [
+        p.classes.len(),
+        p.methods.len(),
+        p.switches.len(),
+        p.statics.len(),
+    ];
+    Ok((counts, p.classes.get(24).map(|class| class.fields)))
+}
+
+fn origin_of(alloc: Global, method: usize) -> Result<Option<Origin>, Fail> {
+    Ok(program(alloc)?.methods.get(method).map(|m| m.origin))
+}
+
 #[test]
 fn everything_has_its_number(rt: HostRuntime) -> Result<(), Fail> {
-    let p = program(rt.alloc())?;
-    assert_eq!(rt; p.classes.len(), 27, "24 and the 3 of the files");
-    assert_eq!(rt;
-        p.methods.len(),
-        12,
-        "the launcher, and 6, 4 and 1 of the files"
-    );
-    assert_eq!(rt; p.switches.len(), 2);
-    assert_eq!(rt; p.statics.len(), 2, "module and d");
-    assert!(rt;
-        p.classes.get(24).is_some_and(|class| class.fields == 3),
-        "base, count and small"
-    );
+    let ([classes, methods, switches, statics], fields) = counts(rt.alloc())?;
+    assert_eq!(rt; classes, 27, "24 and the 3 of the files");
+    assert_eq!(rt; methods, 12, "the launcher, and 6, 4 and 1 of the files");
+    assert_eq!(rt; switches, 2);
+    assert_eq!(rt; statics, 2, "module and d");
+    assert_eq!(rt; fields, Some(3), "base, count and small");
     Ok(())
 }
 
 #[test]
 fn the_launcher_gets_the_object(rt: HostRuntime) -> Result<(), Fail> {
-    let p = program(rt.alloc())?;
-    let first = operation(&p, 0, 0);
+    let first = operation_at(rt.alloc(), 0, 0)?;
     assert!(rt; matches!(first, Some(Operation::CallStatic(Target::Code(n))) if n.0 == 2));
-    let fourth = operation(&p, 0, 3);
+    let fourth = operation_at(rt.alloc(), 0, 3)?;
     assert!(rt; matches!(fourth, Some(Operation::CallVirtual(n)) if n.0 == 0));
-    let main = target(p.classes.get(24), 0);
+    let main = target_of(rt.alloc(), 24, 0)?;
     assert!(rt; matches!(main, Some(Target::Code(n)) if n.0 == 3));
     Ok(())
 }
 
 #[test]
 fn instructions_stand_at_their_bytes(rt: HostRuntime) -> Result<(), Fail> {
-    let p = program(rt.alloc())?;
-    let jump = operation(&p, 3, 5);
+    let jump = operation_at(rt.alloc(), 3, 5)?;
     assert!(rt;
         matches!(
             jump,
             Some(Operation::JumpIfZero(Comparison::LessOrEqual, 25))
         )
     );
-    assert!(rt; matches!(operation(&p, 3, 6), Some(Operation::Undefined)));
-    let get = operation(&p, 3, 9);
+    let inside = operation_at(rt.alloc(), 3, 6)?;
+    assert!(rt; matches!(inside, Some(Operation::Undefined)));
+    let get = operation_at(rt.alloc(), 3, 9)?;
     assert!(rt;
         matches!(get, Some(Operation::GetField { class, field: 1, kind: ValueKind::Long }) if class.0 == 24)
     );
-    let switch = operation(&p, 3, 92);
+    let switch = operation_at(rt.alloc(), 3, 92)?;
     assert!(rt; matches!(switch, Some(Operation::Switch(n)) if n.0 == 1));
     Ok(())
 }
@@ -104,7 +123,6 @@ fn instructions_stand_at_their_bytes(rt: HostRuntime) -> Result<(), Fail> {
 // The starts were found by walking through the files' bytes apart from this compiler.
 #[test]
 fn a_method_tells_where_its_code_stands(rt: HostRuntime) -> Result<(), Fail> {
-    let p = program(rt.alloc())?;
     for (method, file, place, start) in [
         (0, 0, 1, 747),
         (1, 0, 0, 704),
@@ -115,40 +133,31 @@ fn a_method_tells_where_its_code_stands(rt: HostRuntime) -> Result<(), Fail> {
         (10, 1, 3, 395),
         (11, 2, 0, 0),
     ] {
-        let found = p.methods.get(method);
-        assert!(rt; found.is_some_and(|m| m.origin.file == file), "{method}");
-        assert!(rt; found.is_some_and(|m| m.origin.method == place), "{method}");
-        assert!(rt; found.is_some_and(|m| m.origin.start == start), "{method}");
+        let origin = origin_of(rt.alloc(), method)?;
+        assert!(rt; origin.is_some_and(|o| o.file == file), "{method}");
+        assert!(rt; origin.is_some_and(|o| o.method == place), "{method}");
+        assert!(rt; origin.is_some_and(|o| o.start == start), "{method}");
     }
     Ok(())
 }
 
 #[test]
 fn a_method_without_code_is_called_by_nobody(rt: HostRuntime) -> Result<(), Fail> {
-    let p = program(rt.alloc())?;
-    assert!(rt; target(p.classes.get(24), 2).is_some(), "Main$.twice");
-    assert!(rt;
-        target(p.classes.get(25), 2).is_none(),
-        "Base.twice is abstract"
-    );
+    let of_main = target_of(rt.alloc(), 24, 2)?;
+    assert!(rt; of_main.is_some(), "Main$.twice");
+    let of_base = target_of(rt.alloc(), 25, 2)?;
+    assert!(rt; of_base.is_none(), "Base.twice is abstract");
     Ok(())
+}
+
+/// Whether the object of the name has its accessor and a method `main`.
+fn is_main(alloc: Global, name: &[u8]) -> Result<bool, Fail> {
+    Ok(has_main(alloc, &files(alloc)?, &units_of(alloc, name)?)?)
 }
 
 #[test]
 fn a_main_object_has_its_accessor(rt: HostRuntime) -> Result<(), Fail> {
-    let alloc = rt.alloc();
-    let files = files(alloc)?;
-    assert!(rt;
-        matches!(
-            has_main(alloc, &files, &units_of(alloc, b"Main")?),
-            Ok(true)
-        )
-    );
-    assert!(rt;
-        matches!(
-            has_main(alloc, &files, &units_of(alloc, b"Base")?),
-            Ok(false)
-        )
-    );
+    assert!(rt; is_main(rt.alloc(), b"Main")?);
+    assert!(rt; !is_main(rt.alloc(), b"Base")?);
     Ok(())
 }

@@ -5,14 +5,13 @@
 ghost use Rattle.std.specs.Prelude.{◌≡◌, ◌≤◌, IfOk, length};
 ghost use Rattle.scw_classfile.specs.ReadClass.{IsWritable};
 
-use crate::call::text;
 use crate::class_bytes::{main_class, shape_class};
 use scw_classfile::{ClassFile, FileOut, Files, read_class, write_class};
 use scw_machine::{End, LoadFault, load};
 use scw_outside::MemSink;
 use scw_text::Text;
 use sqlite_items::Items;
-use std::alloc::Global;
+use std::alloc::{AllocError, Global};
 use std::process::Abort;
 use std::test::Fail;
 
@@ -108,6 +107,10 @@ fn files(alloc: Global, case: &Case<'_>) -> Result<Files, Fail>
     Ok(files)
 }
 
+fn text(alloc: Global, characters: &str) -> Result<Text, AllocError> {
+    Ok(Items::from_vec(characters.chars().collect(alloc)?))
+}
+
 /// Why the run of the files ended, and after how many rows. Each way out of a function gives back the machine that it has,
 /// with all that is known of it: this one alone has one.
 fn run_files(
@@ -147,15 +150,6 @@ fn outcome_of(alloc: Global, files: &Files, limits: Limits) -> Result<Ran, Fail>
 /// Runs the case.
 pub fn run(alloc: Global, case: &Case<'_>, limits: Limits) -> Result<Ran, Fail> {
     outcome_of(alloc, &files(alloc, case)?, limits)
-}
-
-/// Runs the class `Main$`.
-pub fn run_class(alloc: Global, class: &ClassFile, limits: Limits) -> Result<Ran, Fail>
-    requires { IsWritable class.now }
-{
-    let mut files = Items::new(alloc);
-    files.push(written(alloc, class)?)?;
-    outcome_of(alloc, &files, limits)
 }
 
 /// Whether the case ends, and puts just this.
