@@ -151,7 +151,7 @@ pub struct Method {
 pub struct Program {
     pub classes: Items<Class>,
     pub methods: Items<Method>,
-    /// For each selector, the kinds of the arguments behind the object.
+    /// For each selector, the kinds of the arguments, the object's first.
     pub selectors: Items<Items<ValueKind>>,
     pub types: Items<ReferenceType>,
     pub texts: Items<Units>,

@@ -56,7 +56,8 @@ entry_of (entry.Str text) = pool.Str text
 entry_of (entry.NameAndType name descriptor) = pool.NameAndType name descriptor
 entry_of (entry.Methodref class name) = pool.Methodref class name
 
--- the numbers of the entry fit their fields: units have 16 bits, and numbers 32 or 64
+-- The numbers of the entry fit their fields: units have 16 bits, an Int 32 and a Long 64. No entry of another kind that is
+-- made has numbers but indices, which other definitions bound.
 abbrev pub fits : PoolEntry → Bool
 fits (pool.Utf8 us) = list_all is_unit us
 fits (pool.Integer n) = nat_lt n (2 ^ 32)
