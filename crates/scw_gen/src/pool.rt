@@ -38,64 +38,43 @@ pub struct MethodName {
 fn is_utf8(text: &[u16], found: &PoolEntry) -> bool
     ensures { result ≡ spec.is_utf8 text.now found.now }
 {
-    match found {
-        PoolEntry::Utf8(units) => units.as_slice() == text,
-        _ => false,
-    }
+    matches!(found, PoolEntry::Utf8(units) if units.as_slice() == text)
 }
 
 fn is_integer(n: u32, found: &PoolEntry) -> bool
     ensures { result ≡ spec.is_integer n found.now }
 {
-    match found {
-        PoolEntry::Integer(k) => *k == n,
-        _ => false,
-    }
+    matches!(found, PoolEntry::Integer(k) if *k == n)
 }
 
 fn is_long(n: u64, found: &PoolEntry) -> bool
     ensures { result ≡ spec.is_long n found.now }
 {
-    match found {
-        PoolEntry::Long(k) => *k == n,
-        _ => false,
-    }
+    matches!(found, PoolEntry::Long(k) if *k == n)
 }
 
 fn is_class(name: u16, found: &PoolEntry) -> bool
     ensures { result ≡ spec.is_class name found.now }
 {
-    match found {
-        PoolEntry::Class(k) => *k == name,
-        _ => false,
-    }
+    matches!(found, PoolEntry::Class(k) if *k == name)
 }
 
 fn is_str(text: u16, found: &PoolEntry) -> bool
     ensures { result ≡ spec.is_str text found.now }
 {
-    match found {
-        PoolEntry::Str(k) => *k == text,
-        _ => false,
-    }
+    matches!(found, PoolEntry::Str(k) if *k == text)
 }
 
 fn is_name_and_type(name: u16, descriptor: u16, found: &PoolEntry) -> bool
     ensures { result ≡ spec.is_name_and_type name descriptor found.now }
 {
-    match found {
-        PoolEntry::NameAndType(n, d) => *n == name && *d == descriptor,
-        _ => false,
-    }
+    matches!(found, PoolEntry::NameAndType(n, d) if *n == name && *d == descriptor)
 }
 
 fn is_methodref(class: u16, name: u16, found: &PoolEntry) -> bool
     ensures { result ≡ spec.is_methodref class name found.now }
 {
-    match found {
-        PoolEntry::Methodref(c, n) => *c == class && *n == name,
-        _ => false,
-    }
+    matches!(found, PoolEntry::Methodref(c, n) if *c == class && *n == name)
 }
 
 fn is_entry(entry: Entry, found: &PoolEntry) -> bool
