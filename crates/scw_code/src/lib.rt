@@ -15,7 +15,6 @@ mod opcode;
 mod read;
 mod site;
 mod switch;
-mod tests;
 
 pub use decoding::{Decoded, decode, decode_code};
 pub use encoding::{encode_code, write_code};

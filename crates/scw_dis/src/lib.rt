@@ -13,7 +13,5 @@ mod instruction;
 mod member;
 mod mnemonic;
 mod operand;
-#[cfg(test)]
-mod tests;
 
 pub use class::dis;

@@ -8,8 +8,6 @@ mod field;
 mod header;
 mod heap;
 mod kind;
-#[cfg(test)]
-mod tests;
 
 pub use heap::{Full, Heap};
 pub use kind::{Kind, Ref, Word, units_of};

@@ -6,35 +6,17 @@
 mod bracket;
 mod character;
 mod comment;
-#[cfg(test)]
-mod document_tests;
 mod escape;
 mod front;
 mod gap;
 mod laws;
 mod lexer;
-#[cfg(test)]
-mod limit_tests;
 mod literal;
-#[cfg(test)]
-mod literal_tests;
 mod name;
-#[cfg(test)]
-mod name_tests;
 mod newline;
-#[cfg(test)]
-mod newline_tests;
 mod number;
-#[cfg(test)]
-mod number_tests;
 mod piece;
-#[cfg(test)]
-mod program_tests;
 mod reserved;
-#[cfg(test)]
-mod span_tests;
-#[cfg(test)]
-mod tests;
 mod token;
 mod utf8;
 

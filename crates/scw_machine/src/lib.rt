@@ -4,15 +4,9 @@
 mod end;
 mod loading;
 mod machine;
-#[cfg(test)]
-mod machine_tests;
 mod output;
-#[cfg(test)]
-mod output_tests;
 mod row;
 mod tell;
-#[cfg(test)]
-mod tests;
 
 pub use end::{End, Place, Turn};
 pub use loading::{LoadFault, load};

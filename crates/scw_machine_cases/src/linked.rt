@@ -1,163 +1,155 @@
-//! One program of three class files, held against what `javap` shows of them.
+//! What the program of three class files is.
 
-use crate::linked_files::{BASE, MAIN, NAMED};
+use crate::parts::{Parts, class_of};
 use scw_classfile::{ClassFile, read_class};
-use scw_frame::{Class, Operation, Origin, Program, Target, ValueKind};
+use scw_frame::{Operation, Program, Target, ValueKind};
 use scw_link::{has_main, link};
-use scw_text::Units;
-use scw_value::Comparison;
+use scw_rows::{Stop, Subject};
+use scw_text::{NoMemory, Units};
 use sqlite_items::Items;
-use std::alloc::Global;
-use std::test::Fail;
+use std::alloc::{AllocError, Global};
 
-fn file_of(alloc: Global, bytes: &[u8]) -> Result<ClassFile, Fail> {
-    match read_class(alloc, bytes) {
-        Ok(file) => Ok(file),
-        Err(_) => Err("no class file".into()),
-    }
+/// Questions of the program of `Linked$`, `Base` and `Named`.
+#[derive(Drop)]
+pub struct Linked<'p> {
+    pub parts: &'p Parts,
 }
 
-fn units_of(alloc: Global, bytes: &[u8]) -> Result<Units, Fail> {
+fn units_of(alloc: Global, name: &str) -> Result<Units, AllocError> {
     let mut units = Items::new(alloc);
-    for byte in bytes {
+    for byte in name.as_bytes() {
         units.push(u16::from(*byte))?;
     }
     Ok(units)
 }
 
-fn files(alloc: Global) -> Result<[ClassFile; 3], Fail> {
-    Ok([
-        file_of(alloc, MAIN)?,
-        file_of(alloc, BASE)?,
-        file_of(alloc, NAMED)?,
-    ])
+/// The class files, or none where one of them isn't read.
+fn files_of(alloc: Global, parts: &Parts) -> Result<Vec<ClassFile>, AllocError> {
+    let mut files = Vec::new(alloc);
+    for name in ["Linked$", "Base", "Named"] {
+        if let Ok(file) = read_class(alloc, &class_of(alloc, parts, name)?) {
+            files.push(file)?;
+        }
+    }
+    Ok(files)
 }
 
-fn program(alloc: Global) -> Result<Program, Fail> {
-    let files = files(alloc)?;
-    match link(alloc, &files, &units_of(alloc, b"Main")?) {
-        Ok(program) => Ok(program),
-        Err(_) => Err("no memory".into()),
+fn text_of_target(alloc: Global, target: Option<Target>) -> Result<String, AllocError> {
+    match target {
+        Some(Target::Code(method)) => format!(in alloc; "method {}", method.0),
+        Some(Target::BuiltIn(_)) => format!(in alloc; "a method of the machine"),
+        None => format!(in alloc; "none"),
     }
 }
 
-fn operation(program: &Program, method: usize, place: usize) -> Option<Operation> {
-    let method = program.methods.get(method)?;
-    let instruction = method.code.get(place)?;
-    Some(instruction.operation)
-}
-
-fn target(class: Option<&Class>, selector: usize) -> Option<Target> {
-    *class?.targets.get(selector)?
-}
-
-/// The instruction at the place of the method.
-fn operation_at(alloc: Global, method: usize, place: usize) -> Result<Option<Operation>, Fail> {
-    Ok(operation(&program(alloc)?, method, place))
-}
-
-/// What a virtual call by the selector runs on an instance of the class.
-fn target_of(alloc: Global, class: usize, selector: usize) -> Result<Option<Target>, Fail> {
-    let program = program(alloc)?;
-    Ok(target(program.classes.get(class), selector))
-}
-
-/// How many classes, methods, switches and static fields there are, and how many fields the class of the object has.
-fn counts(alloc: Global) -> Result<([usize; 4], Option<u32>), Fail> {
-    let p = program(alloc)?;
-    let counts = [
-        p.classes.len(),
-        p.methods.len(),
-        p.switches.len(),
-        p.statics.len(),
-    ];
-    Ok((counts, p.classes.get(24).map(|class| class.fields)))
-}
-
-fn origin_of(alloc: Global, method: usize) -> Result<Option<Origin>, Fail> {
-    Ok(program(alloc)?.methods.get(method).map(|m| m.origin))
-}
-
-#[test]
-fn everything_has_its_number(rt: HostRuntime) -> Result<(), Fail> {
-    let ([classes, methods, switches, statics], fields) = counts(rt.alloc())?;
-    assert_eq!(rt; classes, 27, "24 and the 3 of the files");
-    assert_eq!(rt; methods, 12, "the launcher, and 6, 4 and 1 of the files");
-    assert_eq!(rt; switches, 2);
-    assert_eq!(rt; statics, 2, "module and d");
-    assert_eq!(rt; fields, Some(3), "base, count and small");
-    Ok(())
-}
-
-#[test]
-fn the_launcher_gets_the_object(rt: HostRuntime) -> Result<(), Fail> {
-    let first = operation_at(rt.alloc(), 0, 0)?;
-    assert!(rt; matches!(first, Some(Operation::CallStatic(Target::Code(n))) if n.0 == 2));
-    let fourth = operation_at(rt.alloc(), 0, 3)?;
-    assert!(rt; matches!(fourth, Some(Operation::CallVirtual(n)) if n.0 == 0));
-    let main = target_of(rt.alloc(), 24, 0)?;
-    assert!(rt; matches!(main, Some(Target::Code(n)) if n.0 == 3));
-    Ok(())
-}
-
-#[test]
-fn instructions_stand_at_their_bytes(rt: HostRuntime) -> Result<(), Fail> {
-    let jump = operation_at(rt.alloc(), 3, 5)?;
-    assert!(rt;
-        matches!(
-            jump,
-            Some(Operation::JumpIfZero(Comparison::LessOrEqual, 25))
-        )
-    );
-    let inside = operation_at(rt.alloc(), 3, 6)?;
-    assert!(rt; matches!(inside, Some(Operation::Undefined)));
-    let get = operation_at(rt.alloc(), 3, 9)?;
-    assert!(rt;
-        matches!(get, Some(Operation::GetField { class, field: 1, kind: ValueKind::Long }) if class.0 == 24)
-    );
-    let switch = operation_at(rt.alloc(), 3, 92)?;
-    assert!(rt; matches!(switch, Some(Operation::Switch(n)) if n.0 == 1));
-    Ok(())
-}
-
-// The starts were found by walking through the files' bytes apart from this compiler.
-#[test]
-fn a_method_tells_where_its_code_stands(rt: HostRuntime) -> Result<(), Fail> {
-    for (method, file, place, start) in [
-        (0, 0, 1, 747),
-        (1, 0, 0, 704),
-        (3, 0, 2, 789),
-        (6, 0, 5, 1147),
-        (7, 1, 0, 303),
-        (9, 1, 2, 0),
-        (10, 1, 3, 395),
-        (11, 2, 0, 0),
-    ] {
-        let origin = origin_of(rt.alloc(), method)?;
-        assert!(rt; origin.is_some_and(|o| o.file == file), "{method}");
-        assert!(rt; origin.is_some_and(|o| o.method == place), "{method}");
-        assert!(rt; origin.is_some_and(|o| o.start == start), "{method}");
+fn text_of_operation(alloc: Global, operation: Operation) -> Result<String, AllocError> {
+    match operation {
+        Operation::CallStatic(target) => {
+            let method = text_of_target(alloc, Some(target))?;
+            format!(in alloc; "static call of {method}")
+        }
+        Operation::CallVirtual(selector) => {
+            format!(in alloc; "virtual call by selector {}", selector.0)
+        }
+        Operation::JumpIfZero(comparison, target) => {
+            format!(in alloc; "jump to {target} if {comparison:?}")
+        }
+        Operation::GetField { class, field, kind } => {
+            let kind = if matches!(kind, ValueKind::Long) {
+                "a Long"
+            } else {
+                "no Long"
+            };
+            format!(in alloc; "field {field} of class {}, {kind}", class.0)
+        }
+        Operation::Switch(switch) => format!(in alloc; "switch {}", switch.0),
+        Operation::Undefined => format!(in alloc; "undefined"),
+        _ => format!(in alloc; "another operation"),
     }
-    Ok(())
 }
 
-#[test]
-fn a_method_without_code_is_called_by_nobody(rt: HostRuntime) -> Result<(), Fail> {
-    let of_main = target_of(rt.alloc(), 24, 2)?;
-    assert!(rt; of_main.is_some(), "Main$.twice");
-    let of_base = target_of(rt.alloc(), 25, 2)?;
-    assert!(rt; of_base.is_none(), "Base.twice is abstract");
-    Ok(())
+/// The answer to a question with two numbers.
+fn answer_of(
+    alloc: Global,
+    program: &Program,
+    question: &str,
+    first: usize,
+    second: usize,
+) -> Result<Option<String>, AllocError> {
+    Ok(match question {
+        "counts" => Some(format!(in alloc;
+            "{} classes, {} methods, {} switches, {} statics",
+            program.classes.len(),
+            program.methods.len(),
+            program.switches.len(),
+            program.statics.len()
+        )?),
+        "fields" => match program.classes.get(first) {
+            Some(class) => Some(format!(in alloc; "{}", class.fields)?),
+            None => None,
+        },
+        "target" => match program.classes.get(first) {
+            Some(class) => Some(text_of_target(
+                alloc,
+                class.targets.get(second).copied().flatten(),
+            )?),
+            None => None,
+        },
+        _ => None,
+    })
 }
 
-/// Whether the object of the name has its accessor and a method `main`.
-fn is_main(alloc: Global, name: &[u8]) -> Result<bool, Fail> {
-    Ok(has_main(alloc, &files(alloc)?, &units_of(alloc, name)?)?)
+/// The answer to a question about a method.
+fn answer_of_method(
+    alloc: Global,
+    program: &Program,
+    question: &str,
+    method: usize,
+    place: usize,
+) -> Result<Option<String>, AllocError> {
+    let Some(method) = program.methods.get(method) else {
+        return Ok(None);
+    };
+    let origin = method.origin;
+    match (question, method.code.get(place)) {
+        ("operation", Some(instruction)) => {
+            Ok(Some(text_of_operation(alloc, instruction.operation)?))
+        }
+        ("origin", _) => Ok(Some(format!(in alloc;
+            "file {}, method {}, byte {}",
+            origin.file, origin.method, origin.start
+        )?)),
+        _ => Ok(None),
+    }
 }
 
-#[test]
-fn a_main_object_has_its_accessor(rt: HostRuntime) -> Result<(), Fail> {
-    assert!(rt; is_main(rt.alloc(), b"Main")?);
-    assert!(rt; !is_main(rt.alloc(), b"Base")?);
-    Ok(())
+/// The answer to a question.
+fn answer(alloc: Global, files: &[ClassFile], question: &str) -> Result<Option<String>, NoMemory> {
+    let mut words = question.split_whitespace();
+    let question = words.next().unwrap_or("");
+    let first = words.next().unwrap_or("");
+    let second = words.next().unwrap_or("").parse::<usize>().unwrap_or(0);
+    if question == "main" {
+        let is_main = has_main(alloc, files, &units_of(alloc, first)?)?;
+        return Ok(Some(format!(in alloc; "{is_main}")?));
+    }
+    let first = first.parse::<usize>().unwrap_or(0);
+    let program = link(alloc, files, &units_of(alloc, "Main")?)?;
+    if let Some(answer) = answer_of_method(alloc, &program, question, first, second)? {
+        return Ok(Some(answer));
+    }
+    Ok(answer_of(alloc, &program, question, first, second)?)
+}
+
+impl Subject for Linked<'_> {
+    fn answer(&mut self, alloc: Global, cells: &[String]) -> Result<String, Stop> {
+        let [question] = cells else {
+            return Ok(format!(in alloc; "a row has two cells")?);
+        };
+        let files = files_of(alloc, self.parts)?;
+        match answer(alloc, files.as_slice(), question.as_str())? {
+            Some(answer) => Ok(answer),
+            None => Ok(format!(in alloc; "no answer")?),
+        }
+    }
 }

@@ -12,8 +12,6 @@ mod puts;
 mod sink;
 mod std_sink;
 mod store;
-#[cfg(test)]
-mod tests;
 
 pub use calls::Counts;
 pub use dir_store::DirStore;

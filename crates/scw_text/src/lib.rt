@@ -12,8 +12,6 @@ mod refusal;
 mod rule;
 mod source;
 mod span;
-#[cfg(test)]
-mod tests;
 mod text;
 
 pub use memory::NoMemory;

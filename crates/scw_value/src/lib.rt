@@ -12,8 +12,6 @@ mod decimal;
 mod division;
 mod encoded;
 mod shift;
-#[cfg(test)]
-mod tests;
 
 pub use arithmetic::{Arithmetic, int_computed, int_negated, long_computed, long_negated};
 pub use comparison::{Comparison, int_compared, long_order};
