@@ -16,6 +16,23 @@ pub record Edge : Type 0 where
   pub taken_before : Option (List ℕ)
   pub taken_after : Option (List ℕ)
 
+-- the edge of a call with the words: what the store tells, whether it is calm and its faults, before and after; and the room of
+-- `out`, its faults and what it took, before and after
+abbrev pub edge_of : {S O : Type 0} → List (List ℕ) → (S → Option Files) → (S → Bool) → (S → ℕ) → S → S → (O → Option ℕ) → (O → ℕ) → (O → Option (List ℕ)) → O → O → Edge
+edge_of words told is_calm store_faults store_old store_new room out_faults taken out_old out_new =
+    record {
+      words = words;
+      told = told store_old;
+      is_calm = is_calm store_old;
+      store_before = store_faults store_old;
+      store_after = store_faults store_new;
+      room = room out_old;
+      out_before = out_faults out_old;
+      out_after = out_faults out_new;
+      taken_before = taken out_old;
+      taken_after = taken out_new;
+    }
+
 -- the store is calm, or it didn't fail in this call
 abbrev pub IsServed : Edge → Type 0
 IsServed e = IsTrue e.is_calm ⊎ (Rose e.store_before e.store_after → ⊥)

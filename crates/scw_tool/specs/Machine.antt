@@ -6,6 +6,7 @@ use Rattle.scw_link.specs.Linked.{linked}
 use Rattle.scw_machine.specs.Course.{Course, course}
 use Rattle.scw_machine.specs.Load.{first}
 use Rattle.scw_machine.specs.Run.{Running}
+use Rattle.scw_tool.specs.declared.limit.TheConstants.{FRAMES, FRAME_WORDS, HEAP_UNITS, MOST_ROWS}
 use Rattle.scw_machine.specs.declared.end.End.{End}
 use Rattle.scw_machine.specs.declared.end.End.TheVariants as why
 
@@ -15,19 +16,19 @@ main_name = codes "Main"
 
 -- the units of 16 bytes of the heap: 128 MiB
 abbrev pub most_units : ℕ
-most_units = 8388608
+most_units = HEAP_UNITS
 
 -- the frames that may be open at once
 abbrev pub most_frames : ℕ
-most_frames = 100000
+most_frames = FRAMES
 
 -- the words of at most 16 bytes of all frames together: 256 MiB
 abbrev pub most_words : ℕ
-most_words = 16777216
+most_words = FRAME_WORDS
 
 -- the rows that a run may take
 abbrev pub most_rows : ℕ
-most_rows = 50000000
+most_rows = MOST_ROWS
 
 -- the program of the class file, which runs that object
 abbrev pub main_program : ClassFile → Program

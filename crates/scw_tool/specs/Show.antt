@@ -7,6 +7,7 @@ use Rattle.scw_classfile.specs.declared.class_file.ClassFile.{ClassFile}
 use Rattle.scw_classfile.specs.declared.fault.ClassRefusal.{ClassRefusal}
 use Rattle.scw_classfile.specs.ReadClass.{read_class, ClassBytes}
 use Rattle.scw_dis.specs.Class.{text_of}
+use Rattle.scw_tool.specs.declared.limit.TheConstants.{MOST_CLASS_BYTES}
 use Rattle.scw_tool.specs.declared.words.Mode.TheVariants.{Dis}
 use Rattle.scw_tool.specs.Edge.{Edge, HasRoom, IsServed}
 use Rattle.scw_tool.specs.Read.{HasRead}
@@ -17,7 +18,7 @@ class_text c = encode_utf8_all (text_of c)
 
 -- the longest class file
 abbrev pub most_class : ℕ
-most_class = 16777216
+most_class = MOST_CLASS_BYTES
 
 abbrev pub refusal_in : Result ClassFile ClassRefusal → Option ClassRefusal
 refusal_in (Ok c) = None

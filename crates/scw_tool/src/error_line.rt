@@ -46,7 +46,8 @@ fn put_three<E: Sink>(
     second: &[u8],
     third: &[u8],
 ) -> Result<(), SinkFailed>
-    ensures done { OnOk result (E.taken err.new ≡ append_known (E.taken err.old) (first.now ++ (second.now ++ third.now))) }
+    ensures done { OnOk result (E.taken err.new ≡ append_known (E.taken err.old) (first.now ++ (second.now
+        ++ third.now))) }
     ensures later { E.fault_count err.old ≤ E.fault_count err.new }
     ensures rose { OnErr result (Rose (E.fault_count err.old) (E.fault_count err.new)) }
 {
@@ -73,7 +74,8 @@ fn put_refusal<E: Sink>(err: &mut E, refusal: ClassRefusal) -> Result<(), SinkFa
 }
 
 fn put_bad_class<E: Sink>(err: &mut E, name: &str, refusal: ClassRefusal) -> Result<(), SinkFailed>
-    ensures done { OnOk result (E.taken err.new ≡ append_known (E.taken err.old) (bad_class_line name.now refusal)) }
+    ensures done { OnOk result
+        (E.taken err.new ≡ append_known (E.taken err.old) (bad_class_line name.now refusal)) }
     ensures rose { OnErr result (Rose (E.fault_count err.old) (E.fault_count err.new)) }
 {
     put_three(err, b"bad class ", name.as_bytes(), b": ")?;
@@ -136,7 +138,8 @@ fn shown<'a>(name: Option<&'a str>) -> &'a str
 
 /// Puts the line of an answer, where there is one. A failure is the sink's own.
 pub fn report<E: Sink>(err: &mut E, name: Option<&str>, answer: &Answer) -> Result<(), SinkFailed>
-    ensures done { (words : List (List ℕ)) → option_map (λ s. s.now) name.entry ≡ job_file words → OnOk result (E.taken err.new ≡ append_known (E.taken err.old) (line_of words answer.now)) }
+    ensures done { (words : List (List ℕ)) → option_map (λ s. s.now) name.entry ≡ job_file words →
+        OnOk result (E.taken err.new ≡ append_known (E.taken err.old) (line_of words answer.now)) }
     ensures rose { OnErr result (Rose (E.fault_count err.old) (E.fault_count err.new)) }
 {
     match answer {

@@ -3,6 +3,7 @@
 
 mod answer;
 mod error_line;
+mod limit;
 mod running;
 mod show;
 mod top;

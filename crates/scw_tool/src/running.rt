@@ -7,6 +7,7 @@ ghost use Rattle.scw_tool.specs.Job.{Went};
 ghost use Rattle.scw_tool.specs.Source.{HasMain, IsBuilt};
 
 use crate::answer::{Answer, Excess, Run};
+use crate::limit::{FRAME_WORDS, FRAMES, HEAP_UNITS, MOST_ROWS};
 use crate::words::{name_of, utf8_of};
 use scw_core::Program;
 use scw_gen::Large;
@@ -14,18 +15,6 @@ use scw_outside::Sink;
 use scw_run::{Loaded, RunFault, load_program, runs_do_the_same};
 use scw_text::NoMemory;
 use std::alloc::Global;
-
-/// The units of 16 bytes of the heap: 128 MiB.
-const HEAP_UNITS: u32 = 8_388_608;
-
-/// The frames that may be open at once.
-const FRAMES: u32 = 100_000;
-
-/// The words of at most 16 bytes of all frames together: 256 MiB.
-const FRAME_WORDS: u32 = 16_777_216;
-
-/// The rows that a run may take.
-const MOST_ROWS: u64 = 50_000_000;
 
 /// The object whose `main` is run.
 const MAIN: &str = "Main";
@@ -51,7 +40,8 @@ pub fn run_program<O: Sink>(
 ) -> Result<Answer, NoMemory>
     requires main { HasMain (program_of program.now) }
     requires built { IsBuilt (program_of program.now) }
-    ensures went { IfOk result (λ a. Went (program_of program.now) (O.room out.old) (O.fault_count out.old) (O.fault_count out.new) (O.taken out.old) (O.taken out.new) a) }
+    ensures went { IfOk result (λ a. Went (program_of program.now) (O.room out.old) (O.fault_count out.old)
+        (O.fault_count out.new) (O.taken out.old) (O.taken out.new) a) }
     ensures kept { OnErr result (O.taken out.new ≡ O.taken out.old) }
 {
     runs_do_the_same();

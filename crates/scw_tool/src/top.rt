@@ -8,7 +8,7 @@ ghost use Rattle.scw_outside.specs.Content.{HasName};
 ghost use Rattle.scw_classfile.specs.declared.class_file.ClassFile.{ClassFile};
 ghost use Rattle.scw_core.specs.Seen as seen;
 ghost use Rattle.scw_core.specs.Types.{Name};
-ghost use Rattle.scw_tool.specs.Edge.{Edge};
+ghost use Rattle.scw_tool.specs.Edge.{edge_of};
 ghost use Rattle.scw_tool.specs.Executed.{CutOff, Executed, Finished, IsReady, Stopped};
 ghost use Rattle.scw_tool.specs.Job.{Comes, has_run, is_judged, is_status_in};
 ghost use Rattle.scw_tool.specs.JobView.{seen_job};
@@ -17,11 +17,13 @@ ghost use Rattle.scw_tool.specs.Source.{IsTooLarge, Judged};
 ghost use Rattle.scw_tool.specs.Status.{IsStatus, SaysLine};
 ghost use Rattle.scw_tool.specs.Words.{job_file, job_name, job_of, IsMode};
 ghost use Rattle.scw_tool.specs.declared.answer.Excess.{Excess};
+ghost use Rattle.scw_tool.specs.declared.limit.TheConstants.{MOST_ROWS};
 ghost use Rattle.scw_tool.specs.declared.words.Mode.{Mode};
 ghost use Rattle.scw_tool.specs.declared.words.Mode.TheVariants.{Run, Dis};
 
 use crate::answer::{Answer, Outcome};
 use crate::error_line::report;
+use crate::limit::MOST_SOURCE_READ;
 use crate::running::run_program;
 use crate::show::show_file;
 use crate::words::{Job, Mode, file_of, job_of, name_of};
@@ -31,9 +33,6 @@ use scw_small::read_program;
 use scw_text::NoMemory;
 use std::alloc::Global;
 
-/// A file of more bytes than a source may have is read only so far.
-const MOST_READ: u32 = 1_048_577;
-
 // Reads the file, and runs it where it is a source.
 fn run_file<S: Store, O: Sink>(
     alloc: Global,
@@ -41,12 +40,14 @@ fn run_file<S: Store, O: Sink>(
     store: &mut S,
     out: &mut O,
 ) -> Result<Answer, NoMemory>
-    ensures comes { (words : List (List ℕ)) → IsMode words Run → job_file words ≡ Some file.now → IfOk result (λ a. Comes (record { words = words; told = S.told store.old; is_calm = S.is_calm store.old; store_before = S.fault_count store.old; store_after = S.fault_count store.new; room = O.room out.old; out_before = O.fault_count out.old; out_after = O.fault_count out.new; taken_before = O.taken out.old; taken_after = O.taken out.new }) a) }
+    ensures comes { (words : List (List ℕ)) → IsMode words Run → job_file words ≡ Some file.now →
+        IfOk result (λ a. Comes (edge_of words S.told S.is_calm S.fault_count store.old
+        store.new O.room O.fault_count O.taken out.old out.new) a) }
     ensures kept { OnErr result (O.taken out.new ≡ O.taken out.old) }
     ensures store { S.told store.new ≡ S.told store.old }
 {
     let name = name_of(alloc, file)?;
-    let source = match store.read(alloc, &name, MOST_READ) {
+    let source = match store.read(alloc, &name, MOST_SOURCE_READ) {
         Ok(source) => source,
         Err(StoreFault::Failed) => return Ok(Answer::ReadFault),
         Err(StoreFault::NoMemory) => return Err(NoMemory),
@@ -67,7 +68,9 @@ fn do_job<S: Store, O: Sink>(
     store: &mut S,
     out: &mut O,
 ) -> Result<Answer, NoMemory>
-    ensures comes { (words : List (List ℕ)) → job_of words ≡ Some (seen_job job.entry) → IfOk result (λ a. Comes (record { words = words; told = S.told store.old; is_calm = S.is_calm store.old; store_before = S.fault_count store.old; store_after = S.fault_count store.new; room = O.room out.old; out_before = O.fault_count out.old; out_after = O.fault_count out.new; taken_before = O.taken out.old; taken_after = O.taken out.new }) a) }
+    ensures comes { (words : List (List ℕ)) → job_of words ≡ Some (seen_job job.entry) →
+        IfOk result (λ a. Comes (edge_of words S.told S.is_calm S.fault_count store.old
+        store.new O.room O.fault_count O.taken out.old out.new) a) }
     ensures kept { OnErr result (O.taken out.new ≡ O.taken out.old) }
     ensures store { S.told store.new ≡ S.told store.old }
 {
@@ -84,7 +87,9 @@ fn answer_to<S: Store, O: Sink>(
     store: &mut S,
     out: &mut O,
 ) -> Answer
-    ensures comes { (words : List (List ℕ)) → option_map seen_job job.entry ≡ job_of words → Comes (record { words = words; told = S.told store.old; is_calm = S.is_calm store.old; store_before = S.fault_count store.old; store_after = S.fault_count store.new; room = O.room out.old; out_before = O.fault_count out.old; out_after = O.fault_count out.new; taken_before = O.taken out.old; taken_after = O.taken out.new }) result }
+    ensures comes { (words : List (List ℕ)) → option_map seen_job job.entry ≡ job_of words →
+        Comes (edge_of words S.told S.is_calm S.fault_count store.old store.new O.room
+        O.fault_count O.taken out.old out.new) result }
     ensures store { S.told store.new ≡ S.told store.old }
 {
     match job {
@@ -105,53 +110,95 @@ pub fn scw_main<S: Store, O: Sink, E: Sink>(
     out: &mut O,
     err: &mut E,
 ) -> Outcome
-    // The headline: where a class file was run, it was made from the one program that the source says, reads back, and does what the program does; the machine ran it, put its output, and did `steps` rows; its answer is the status, and says how the program's own run goes.
-    ensures headline { IsMode (map string_bytes words.now.items) Run → IsTrue (has_run result.status) → Executed (map string_bytes words.now.items) (S.told store.old) result.status result.files result.steps (O.taken out.old) (O.taken out.new) (O.room out.old) }
+    // The headline: where a class file was run, it was made from the one program that the source
+    // says, reads back, and does what the program does; the machine ran it, put its output, or with
+    // status 4 a part of it, and did `steps` rows; its answer is the status, and says how the
+    // program's own run goes.
+    ensures headline { IsMode (map string_bytes words.now.items) Run → IsTrue (has_run result.status) →
+        Executed (map string_bytes words.now.items) (S.told store.old) result.status
+        result.files result.steps (O.taken out.old) (O.taken out.new) (O.room out.old) }
     // Status 0 of `run`: the source's `main` ends, and all that it puts was put.
-    ensures finished { IsMode (map string_bytes words.now.items) Run → result.status ≡ 0 → Finished (map string_bytes words.now.items) (S.told store.old) seen.normal (O.taken out.old) (O.taken out.new) }
+    ensures finished { IsMode (map string_bytes words.now.items) Run → result.status ≡ 0 →
+        Finished (map string_bytes words.now.items) (S.told store.old) seen.normal
+        (O.taken out.old) (O.taken out.new) }
     // Where `dis` ends with status 0, the file is one class, and no other, and its text was put.
-    ensures shown { IsMode (map string_bytes words.now.items) Dis → result.status ≡ 0 → Shown (map string_bytes words.now.items) (S.told store.old) (O.taken out.old) (O.taken out.new) }
+    ensures shown { IsMode (map string_bytes words.now.items) Dis → result.status ≡ 0 →
+        Shown (map string_bytes words.now.items) (S.told store.old) (O.taken out.old)
+        (O.taken out.new) }
     // Status 2: the words are no job.
     ensures words { (result.status ≡ 2) ↔ IsNone (job_name (map string_bytes words.now.items)) }
     // Status 3: the store failed in this call.
     ensures read { result.status ≡ 3 → Rose (S.fault_count store.old) (S.fault_count store.new) }
     // It doesn't come where the store is calm and has the file.
-    ensures has { IsTrue (S.is_calm store.old) → IfSome (job_name (map string_bytes words.now.items)) (λ name. HasName (S.told store.old) name → result.status ≢ 3) }
+    ensures has { IsTrue (S.is_calm store.old) →
+        IfSome (job_name (map string_bytes words.now.items))
+        (λ name. HasName (S.told store.old) name → result.status ≢ 3) }
     // Status 4: `out` failed in this call.
     ensures write { result.status ≡ 4 → Rose (O.fault_count out.old) (O.fault_count out.new) }
     // With status 4 it had taken a part of what the source's `main` puts, or of the class's text.
-    ensures cut { IsMode (map string_bytes words.now.items) Run → result.status ≡ 4 → CutOff (map string_bytes words.now.items) (S.told store.old) (O.taken out.old) (O.taken out.new) }
-    ensures cut_text { IsMode (map string_bytes words.now.items) Dis → result.status ≡ 4 → ShownInPart (map string_bytes words.now.items) (S.told store.old) (O.taken out.old) (O.taken out.new) }
+    ensures cut { IsMode (map string_bytes words.now.items) Run → result.status ≡ 4 →
+        CutOff (map string_bytes words.now.items) (S.told store.old) (O.taken out.old)
+        (O.taken out.new) }
+    ensures cut_text { IsMode (map string_bytes words.now.items) Dis → result.status ≡ 4 →
+        ShownInPart (map string_bytes words.now.items) (S.told store.old) (O.taken out.old)
+        (O.taken out.new) }
     // Status 6: the class of the source doesn't fit a class file.
-    ensures large { result.status ≡ 6 → (x : Excess) × IsTooLarge (map string_bytes words.now.items) (S.told store.old) x }
+    ensures large { IsMode (map string_bytes words.now.items) Run → result.status ≡ 6 →
+        (x : Excess) × IsTooLarge (map string_bytes words.now.items) (S.told store.old) x }
     // Status 7: the source's `main` ends with an exception, and all that it puts was put.
-    ensures thrown { result.status ≡ 7 → (class : Name) × (message : Option (List ℕ)) × Finished (map string_bytes words.now.items) (S.told store.old) (seen.thrown class message) (O.taken out.old) (O.taken out.new) }
-    // Status 8: all the rows were done, and what was put is a front of what the source's `main` puts.
-    ensures spent { result.status ≡ 8 → (result.steps ≡ 50000000) × Stopped (map string_bytes words.now.items) (S.told store.old) result.steps (O.taken out.old) (O.taken out.new) }
-    // Status 9 and 10: the heap or the frames didn't suffice for the next row; the same of what was put.
-    ensures heap { result.status ≡ 9 → Stopped (map string_bytes words.now.items) (S.told store.old) result.steps (O.taken out.old) (O.taken out.new) }
-    ensures frames { result.status ≡ 10 → Stopped (map string_bytes words.now.items) (S.told store.old) result.steps (O.taken out.old) (O.taken out.new) }
+    ensures thrown { IsMode (map string_bytes words.now.items) Run → result.status ≡ 7 →
+        (class : Name) × (message : Option (List ℕ)) × Finished
+        (map string_bytes words.now.items) (S.told store.old) (seen.thrown class message)
+        (O.taken out.old) (O.taken out.new) }
+    // Status 8: all the rows were done, and what was put is a front of what the source's `main`
+    // puts.
+    ensures spent { IsMode (map string_bytes words.now.items) Run → result.status ≡ 8 →
+        (result.steps ≡ MOST_ROWS) × Stopped (map string_bytes words.now.items)
+        (S.told store.old) result.steps (O.taken out.old) (O.taken out.new) }
+    // Status 9 and 10: the heap or the frames didn't suffice for the next row; the same of what was
+    // put.
+    ensures heap { IsMode (map string_bytes words.now.items) Run → result.status ≡ 9 →
+        Stopped (map string_bytes words.now.items) (S.told store.old) result.steps
+        (O.taken out.old) (O.taken out.new) }
+    ensures frames { IsMode (map string_bytes words.now.items) Run → result.status ≡ 10 →
+        Stopped (map string_bytes words.now.items) (S.told store.old) result.steps
+        (O.taken out.old) (O.taken out.new) }
     // Where a class file was read and judged, status 11 says exactly that it is none, or too long.
-    ensures bad_class { IsMode (map string_bytes words.now.items) Dis → IsTrue (is_judged_class result.status) → JudgedClass (map string_bytes words.now.items) (S.told store.old) result.status }
+    ensures bad_class { IsMode (map string_bytes words.now.items) Dis → IsTrue (is_judged_class result.status) →
+        JudgedClass (map string_bytes words.now.items) (S.told store.old) result.status }
     // Where a source was read and judged, status 14 says exactly that it is none.
-    ensures not_built { IsMode (map string_bytes words.now.items) Run → IsTrue (is_judged result.status) → Judged (map string_bytes words.now.items) (S.told store.old) result.status }
+    ensures not_built { IsMode (map string_bytes words.now.items) Run → IsTrue (is_judged result.status) →
+        Judged (map string_bytes words.now.items) (S.told store.old) result.status }
     // There are files and steps where a class file was run alone, and no refusal yet.
     ensures files { has_run result.status ≡ false → result.files ≡ [] }
     ensures steps { has_run result.status ≡ false → result.steps ≡ 0 }
     ensures nothing_run { IsMode (map string_bytes words.now.items) Dis → (result.files ≡ []) × (result.steps ≡ 0) }
     ensures refusal { result.refusal ≡ None }
-    // The status is one of those that have a name. No clause but `said` speaks of `err`, so its failure changes nothing else.
+    // The status is one of those that have a name. No clause but `said` speaks of `err`, so its
+    // failure changes nothing else.
     ensures known { IsStatus result.status }
-    // A job ends with a status of its mode: none of `run` is a bad class, and none of `dis` is too large, not built, or of a run.
-    ensures statuses { (m : Mode) → IsMode (map string_bytes words.now.items) m → IsTrue (is_status_in m result.status) }
+    // A job ends with a status of its mode: none of `run` is a bad class, and none of `dis` is too
+    // large, not built, or of a run.
+    ensures statuses { (m : Mode) → IsMode (map string_bytes words.now.items) m →
+        IsTrue (is_status_in m result.status) }
     // The line of the answer, where `err` doesn't fail.
-    ensures said { (Rose (E.fault_count err.old) (E.fault_count err.new) → ⊥) → SaysLine (record { words = map string_bytes words.now.items; told = S.told store.old; is_calm = S.is_calm store.old; store_before = S.fault_count store.old; store_after = S.fault_count store.new; room = O.room out.old; out_before = O.fault_count out.old; out_after = O.fault_count out.new; taken_before = O.taken out.old; taken_after = O.taken out.new }) result.status result.files result.steps (E.taken err.old) (E.taken err.new) }
+    ensures said { (Rose (E.fault_count err.old) (E.fault_count err.new) → ⊥) →
+        SaysLine (edge_of (map string_bytes words.now.items) S.told S.is_calm S.fault_count
+        store.old store.new O.room O.fault_count O.taken out.old out.new) result.status
+        result.files result.steps (E.taken err.old) (E.taken err.new) }
     // The store's files are as before, and so is `out` where nothing was run or shown.
     ensures store { S.told store.new ≡ S.told store.old }
     ensures out { has_run result.status ≡ false → O.taken out.new ≡ O.taken out.old }
-    // A source whose run ends within the limits is run to its end, and a class file is shown, unless memory runs out: where the store has the file, and is calm or doesn't fail in this call, and `out` has room, or doesn't fail in this call.
-    ensures complete { IsReady (record { words = map string_bytes words.now.items; told = S.told store.old; is_calm = S.is_calm store.old; store_before = S.fault_count store.old; store_after = S.fault_count store.new; room = O.room out.old; out_before = O.fault_count out.old; out_after = O.fault_count out.new; taken_before = O.taken out.old; taken_after = O.taken out.new }) → (result.status ≡ 0) ⊎ (result.status ≡ 7) ⊎ (result.status ≡ 12) }
-    ensures complete_text { (c : ClassFile) → IsReadyClass (record { words = map string_bytes words.now.items; told = S.told store.old; is_calm = S.is_calm store.old; store_before = S.fault_count store.old; store_after = S.fault_count store.new; room = O.room out.old; out_before = O.fault_count out.old; out_after = O.fault_count out.new; taken_before = O.taken out.old; taken_after = O.taken out.new }) c → (result.status ≡ 0) ⊎ (result.status ≡ 12) }
+    // A source whose run ends within the limits is run to its end, and a class file is shown,
+    // unless memory runs out: where the store has the file, and is calm or doesn't fail in this
+    // call, and `out` has room, or doesn't fail in this call.
+    ensures complete { IsReady (edge_of (map string_bytes words.now.items) S.told S.is_calm S.fault_count
+        store.old store.new O.room O.fault_count O.taken out.old out.new) →
+        (result.status ≡ 0) ⊎ (result.status ≡ 7) ⊎ (result.status ≡ 12) }
+    ensures complete_text { (c : ClassFile) →
+        IsReadyClass (edge_of (map string_bytes words.now.items) S.told S.is_calm S.fault_count
+        store.old store.new O.room O.fault_count O.taken out.old out.new) c →
+        (result.status ≡ 0) ⊎ (result.status ≡ 12) }
 {
     let job = job_of(words.as_slice());
     let answer = answer_to(alloc, job, store, out);

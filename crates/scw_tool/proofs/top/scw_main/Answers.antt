@@ -33,19 +33,19 @@ pub returns-clause-cut_text : goal.returns-clause-cut_text
 returns-clause-cut_text g c = λ m h. top.cut_text_is _ c.answer_to-answer.result (c.answer_to-answer.ensures.comes (map string_bytes c.args.words.now.items) (rw c.as_slice.ensures.value at c.job_of-job.ensures)) m (sym c.into_outcome.ensures.status ∙ h)
 
 pub returns-clause-large : goal.returns-clause-large
-returns-clause-large g c = λ h. top.large_is _ c.answer_to-answer.result (c.answer_to-answer.ensures.comes (map string_bytes c.args.words.now.items) (rw c.as_slice.ensures.value at c.job_of-job.ensures)) (sym c.into_outcome.ensures.status ∙ h)
+returns-clause-large g c = λ _ h. top.large_is _ c.answer_to-answer.result (c.answer_to-answer.ensures.comes (map string_bytes c.args.words.now.items) (rw c.as_slice.ensures.value at c.job_of-job.ensures)) (sym c.into_outcome.ensures.status ∙ h)
 
 pub returns-clause-thrown : goal.returns-clause-thrown
-returns-clause-thrown g c = λ h. top.thrown_is _ c.answer_to-answer.result (c.answer_to-answer.ensures.comes (map string_bytes c.args.words.now.items) (rw c.as_slice.ensures.value at c.job_of-job.ensures)) (sym c.into_outcome.ensures.status ∙ h)
+returns-clause-thrown g c = λ _ h. top.thrown_is _ c.answer_to-answer.result (c.answer_to-answer.ensures.comes (map string_bytes c.args.words.now.items) (rw c.as_slice.ensures.value at c.job_of-job.ensures)) (sym c.into_outcome.ensures.status ∙ h)
 
 pub returns-clause-spent : goal.returns-clause-spent
-returns-clause-spent g c = λ h. rw c.into_outcome.ensures.steps (top.spent_is _ c.answer_to-answer.result (c.answer_to-answer.ensures.comes (map string_bytes c.args.words.now.items) (rw c.as_slice.ensures.value at c.job_of-job.ensures)) (sym c.into_outcome.ensures.status ∙ h))
+returns-clause-spent g c = λ _ h. rw c.into_outcome.ensures.steps (top.spent_is _ c.answer_to-answer.result (c.answer_to-answer.ensures.comes (map string_bytes c.args.words.now.items) (rw c.as_slice.ensures.value at c.job_of-job.ensures)) (sym c.into_outcome.ensures.status ∙ h))
 
 pub returns-clause-heap : goal.returns-clause-heap
-returns-clause-heap g c = λ h. rw c.into_outcome.ensures.steps (top.heap_is _ c.answer_to-answer.result (c.answer_to-answer.ensures.comes (map string_bytes c.args.words.now.items) (rw c.as_slice.ensures.value at c.job_of-job.ensures)) (sym c.into_outcome.ensures.status ∙ h))
+returns-clause-heap g c = λ _ h. rw c.into_outcome.ensures.steps (top.heap_is _ c.answer_to-answer.result (c.answer_to-answer.ensures.comes (map string_bytes c.args.words.now.items) (rw c.as_slice.ensures.value at c.job_of-job.ensures)) (sym c.into_outcome.ensures.status ∙ h))
 
 pub returns-clause-frames : goal.returns-clause-frames
-returns-clause-frames g c = λ h. rw c.into_outcome.ensures.steps (top.frames_are _ c.answer_to-answer.result (c.answer_to-answer.ensures.comes (map string_bytes c.args.words.now.items) (rw c.as_slice.ensures.value at c.job_of-job.ensures)) (sym c.into_outcome.ensures.status ∙ h))
+returns-clause-frames g c = λ _ h. rw c.into_outcome.ensures.steps (top.frames_are _ c.answer_to-answer.result (c.answer_to-answer.ensures.comes (map string_bytes c.args.words.now.items) (rw c.as_slice.ensures.value at c.job_of-job.ensures)) (sym c.into_outcome.ensures.status ∙ h))
 
 pub returns-clause-bad_class : goal.returns-clause-bad_class
 returns-clause-bad_class g c = λ m. rw c.into_outcome.ensures.status (top.bad_class_is _ c.answer_to-answer.result (c.answer_to-answer.ensures.comes (map string_bytes c.args.words.now.items) (rw c.as_slice.ensures.value at c.job_of-job.ensures)) m)
